@@ -1,0 +1,2 @@
+pub mod Enterables
+pub mod Rounding

@@ -1,0 +1,4 @@
+pub mod Divisors
+pub mod Faults
+pub mod Spans
+pub mod Splits
