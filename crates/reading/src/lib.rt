@@ -39,7 +39,11 @@ pub fn read<S: Scan>(start: S, text: &[u8]) -> Result<S::Value, usize>
 }
 
 // What reading a text of that length answers under a limit on the length.
-pub fn within_limit<V: Drop>(answer: Result<V, usize>, length: usize, limit: usize) -> Result<V, usize>
+pub fn within_limit<V: Drop>(
+    answer: Result<V, usize>,
+    length: usize,
+    limit: usize,
+) -> Result<V, usize>
     ensures { λ r. ⌜ r ≡ limited limit length answer ⌝ }
 {
     match answer {

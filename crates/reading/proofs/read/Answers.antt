@@ -15,9 +15,10 @@ returns-in-Break-state g c =
 
 pub loop-left-again : need.loop-left-again
 loop-left-again g c =
-    let some = ok-or-some (c .step .result) (c .loop-left .at) (c .in-Continue-state .state) (c .in-Continue-state .ensures tt .value) in
-    (read-more (g .S·Scan .stepped) (g .S·Scan .ended) _ _ _ (c .loop-left .left .now) (omega (arith, ltb-false)) (sym (c .step .ensures) ∙ some) ∙ c .loop-left .inv .0,
-      rest-count (c .loop-left .left .now) _ _ (omega (arith, ltb-false)) (c .loop-left .inv .1))
+    let some = ok-or-some (c .step .result) (c .loop-left .at) (c .in-Continue-state .state) (c .in-Continue-state .ensures tt .value) in (
+      read-more (g .S·Scan .stepped) (g .S·Scan .ended) _ _ _ (c .loop-left .left .now) (omega (arith, ltb-false)) (sym (c .step .ensures) ∙ some) ∙ c .loop-left .inv .0,
+      rest-count (c .loop-left .left .now) _ _ (omega (arith, ltb-false)) (c .loop-left .inv .1),
+    )
 
 pub returns : need.returns
 returns g c = c .ok-or-2 .ensures .value ∙ rw (c .end .ensures) (sym (read-end (g .S·Scan .stepped) (g .S·Scan .ended) _ _ (c .loop-left .left .now) (omega (arith, ltb-true))) ∙ c .loop-left .inv .0)

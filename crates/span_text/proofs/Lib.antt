@@ -1,0 +1,5 @@
+pub mod Figures
+pub mod Complete
+pub mod Live
+pub mod Sound
+pub mod Answering
