@@ -3,7 +3,7 @@ use Prim.Native.Nat.{ℕ, _+_, _-_, _<_, _≤_, min}
 use mathlib.Core.Path.{_≡_, ap, sym, refl, _∙_, subst}
 use mathlib.Core.Bool.{Bool, true, false, cond}
 use mathlib.Core.List.{List, [], _∷_, _++_, append-assoc, append-nil}
-use mathlib.Core.Logic.{inl, inr}
+use mathlib.Core.Logic.{_⊎_, inl, inr}
 use native.Mathlib.Omega.{arith}
 use lib.Dec.{ltb}
 use lib.ListN.{length, getD, take, drop, length-append, length-take, length-drop}
@@ -30,6 +30,11 @@ ok-err v n h = let z : _≡_ {A = ℕ} 0 1 = cc in absurd (omega arith)
 
 same-place : {V : Type 0} (m n : ℕ) → _≡_ {A = Result V ℕ} (Err m) (Err n) → m ≡ n
 same-place m n h = cc
+
+-- what a test that gave something says
+pub cond-some : {S : Type 0} (c : Bool) (x : S) (o : Option S) (t : S) → cond c (Some x) o ≡ Some t → ((c ≡ true) × (x ≡ t)) ⊎ (o ≡ Some t)
+cond-some true x o t h = inl (refl, cc)
+cond-some false x o t h = inr h
 
 -- ── the loop ──
 

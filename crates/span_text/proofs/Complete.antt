@@ -10,7 +10,9 @@ use Rattle.std.proofs.shelf.Ways.{tells}
 use Rattle.std.specs.declared.option.Option.the-variants.{Some}
 use Rattle.std.specs.declared.result.Result.{Result}
 use Rattle.std.specs.declared.result.Result.the-variants.{Ok}
+use Rattle.reading.specs.Digits.{value-on, All-digits, Digits}
 use Rattle.reading.specs.Reading.{read-on}
+use Rattle.reading.proofs.Figures.{digit-more}
 use Rattle.reading.proofs.Machines.{go as go-on}
 use Rattle.span_text.specs.declared.scan.Designator.{Designator}
 use Rattle.span_text.specs.declared.scan.Designator.the-variants.{Period, Years, Months, Weeks, Days, Time, Hours, Minutes, Seconds}
@@ -18,10 +20,10 @@ use Rattle.span_text.specs.declared.scan.Stage.the-variants.{Start, Signed, Af
 use Rattle.span_text.specs.declared.scan.Fields.{Fields}
 use Rattle.span_text.specs.declared.scan.Progress.{Progress}
 use Rattle.span_text.specs.Scanning.{rank-of, at, start, put, put-seconds, stepped, ended, read-fields}
-use Rattle.span_text.specs.Grammar.{value-on, All-digits, Digits, micros-of, Closes, Spelt, Span-text}
+use Rattle.span_text.specs.Grammar.{micros-of, Closes, Spelt, Span-text}
 use Rattle.span_text.specs.Grammar.Closes.{years, months, weeks, days, hours, minutes, seconds}
 use Rattle.span_text.specs.Grammar.Spelt.{plus, minus, part, time, fraction}
-use Rattle.span_text.proofs.Figures.{digit-more, number-room, padded-small, padded-more, micros-one}
+use Rattle.span_text.proofs.Fractions.{number-room, padded-small, padded-more}
 
 abbrev read : Progress → ℕ → List ℕ → Result Fields ℕ
 read = read-on stepped ended

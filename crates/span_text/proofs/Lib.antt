@@ -1,4 +1,4 @@
-pub mod Figures
+pub mod Fractions
 pub mod Complete
 pub mod Live
 pub mod Sound

@@ -12,18 +12,20 @@ use Rattle.std.specs.declared.option.Option.{Option}
 use Rattle.std.specs.declared.option.Option.the-variants.{Some, None}
 use Rattle.std.specs.declared.result.Result.{Result}
 use Rattle.std.specs.declared.result.Result.the-variants.{Ok, Err}
+use Rattle.reading.specs.Digits.{is-digit, value-on, Digits}
 use Rattle.reading.specs.Reading.{read-on}
-use Rattle.reading.proofs.Machines.{none-some, err-ok, first-step}
+use Rattle.reading.proofs.Figures.{value-push, length-push, digits-push, one-digit, digit-tells}
+use Rattle.reading.proofs.Machines.{none-some, err-ok, cond-some, first-step}
 use Rattle.span_text.specs.declared.scan.Designator.{Designator}
 use Rattle.span_text.specs.declared.scan.Designator.the-variants.{Period, Years, Months, Weeks, Days, Time, Hours, Minutes, Seconds}
 use Rattle.span_text.specs.declared.scan.Stage.the-variants.{Start, Signed, After, Number, Point, Fraction}
 use Rattle.span_text.specs.declared.scan.Fields.{Fields}
 use Rattle.span_text.specs.declared.scan.Progress.{Progress}
-use Rattle.span_text.specs.Scanning.{rank-of, at, unsaid, start, put, put-seconds, is-digit, closing, after-designator, in-number, in-point, in-fraction, opened, stepped, ended, read-fields}
-use Rattle.span_text.specs.Grammar.{value-on, Digits, micros-of, Closes, Spelt, Span-text}
+use Rattle.span_text.specs.Scanning.{rank-of, at, unsaid, start, put, put-seconds, closing, after-designator, in-number, in-point, in-fraction, opened, stepped, ended, read-fields}
+use Rattle.span_text.specs.Grammar.{micros-of, Closes, Spelt, Span-text}
 use Rattle.span_text.specs.Grammar.Closes.{years, months, weeks, days, hours, minutes, seconds}
 use Rattle.span_text.specs.Grammar.Spelt.{plus, minus, part, time, fraction}
-use Rattle.span_text.proofs.Figures.{value-push, length-push, digits-push, one-digit, micros-push, micros-one}
+use Rattle.span_text.proofs.Fractions.{micros-push, micros-one}
 
 -- what has been read in a progress
 data Reads : List ℕ → Progress → Type 0 where
@@ -39,21 +41,11 @@ data Reads : List ℕ → Progress → Type 0 where
 
 -- ── what a test that gave something says ──
 
-cond-some : {S : Type 0} (c : Bool) (x : S) (o : Option S) (t : S) → cond c (Some x) o ≡ Some t → ((c ≡ true) × (x ≡ t)) ⊎ (o ≡ Some t)
-cond-some true x o t h = inl (refl, cc)
-cond-some false x o t h = inr h
-
 peel : (b l : ℕ) (c : Bool) (d e : Designator) (o : Option Designator) → cond (eqb b l && c) (Some d) o ≡ Some e → ((l ≡ b) × (c ≡ true) × (d ≡ e)) ⊎ (o ≡ Some e)
 peel b l c d e o h = elim (cond-some (eqb b l && c) d o e h) [
   | inl w ↦ let p = and-parts (eqb b l) c (w .0) in inl (sym (eqb-true b l (p .0)), p .1, w .1)
   | inr n ↦ inr n
 ]
-
-digit-tells : (b : ℕ) (c : Bool) → (is-digit b && c) ≡ true → (48 ≤ b) × (b ≤ 57) × (c ≡ true)
-digit-tells b c h =
-    let p = and-parts (is-digit b) c h in
-    let q = and-parts (leb 48 b) (leb b 57) (p .0) in
-    (leb-true 48 b (q .0), leb-true b 57 (q .1), p .1)
 
 -- ── the letters that close a number ──
 

@@ -1,29 +1,15 @@
 -- The texts of spans, as they are written. The bytes: 45 `-`, 46 `.`, 48 to 57 digits, and the letters 68 `D`, 72 `H`, 77 `M`, 80 `P`,
 -- 83 `S`, 84 `T`, 87 `W`, 89 `Y`.
-use Prim.Native.Nat.{ℕ, _+_, _*_, _-_, _^_, _<_, _≤_}
+use Prim.Native.Nat.{ℕ, _*_, _-_, _^_, _<_, _≤_}
 use mathlib.Core.Path.{_≡_}
 use mathlib.Core.List.{List, [], _∷_, _++_}
 use mathlib.Core.Bool.{true, false}
 use lib.ListN.{length}
+use Rattle.reading.specs.Digits.{value-on, Digits}
 use Rattle.span_text.specs.declared.scan.Designator.{Designator}
 use Rattle.span_text.specs.declared.scan.Designator.the-variants.{Period, Years, Months, Weeks, Days, Time, Hours, Minutes, Seconds}
 use Rattle.span_text.specs.declared.scan.Fields.{Fields}
 use Rattle.span_text.specs.Scanning.{rank-of, unsaid, put, put-seconds}
-
--- the number that digits write, after those that gave n
-abbrev pub value-on : ℕ → List ℕ → ℕ
-value-on n [] = n
-value-on n (c ∷ cs) = value-on (n * 10 + (c - 48)) cs
-
-abbrev pub All-digits : List ℕ → Type 0
-All-digits [] = Unit {0}
-All-digits (c ∷ cs) = (48 ≤ c) × (c ≤ 57) × All-digits cs
-
--- from one digit to m
-pub record Digits (m : ℕ) (ds : List ℕ) : Type 0 where
-  pub all : All-digits ds
-  pub some : 0 < length ds
-  pub few : length ds ≤ m
 
 -- the microseconds of a fraction's digits
 abbrev pub micros-of : List ℕ → ℕ

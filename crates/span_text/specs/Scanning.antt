@@ -7,6 +7,7 @@ use lib.Dec.{eqb, leb, ltb}
 use Rattle.std.specs.declared.option.Option.{Option}
 use Rattle.std.specs.declared.option.Option.the-variants.{Some, None}
 use Rattle.std.specs.declared.result.Result.{Result}
+use Rattle.reading.specs.Digits.{is-digit}
 use Rattle.reading.specs.Reading.{read-on}
 use Rattle.span_text.specs.declared.scan.Designator.{Designator}
 use Rattle.span_text.specs.declared.scan.Designator.the-variants.{Period, Years, Months, Weeks, Days, Time, Hours, Minutes, Seconds}
@@ -54,9 +55,6 @@ put f d n = record {
 -- with seconds and their fraction
 abbrev pub put-seconds : Fields → ℕ → ℕ → Fields
 put-seconds f n micros = record { minus = f .minus; years = f .years; months = f .months; weeks = f .weeks; days = f .days; hours = f .hours; minutes = f .minutes; seconds = n; micros = micros }
-
-abbrev pub is-digit : ℕ → Bool
-is-digit b = leb 48 b && leb b 57
 
 -- the designator of a letter that closes a number after the designator of rank r
 abbrev pub closing : ℕ → ℕ → Option Designator
