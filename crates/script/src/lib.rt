@@ -1,0 +1,2 @@
+// Scripts for a board: lines of words, and the answer to each.
+pub mod line;
