@@ -1,3 +1,4 @@
+pub mod Boards
 pub mod Laws
 pub mod Loans
 pub mod Slots
