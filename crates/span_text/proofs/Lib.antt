@@ -3,3 +3,6 @@ pub mod Complete
 pub mod Live
 pub mod Sound
 pub mod Answering
+pub mod Numerals
+pub mod RoundTrip
+pub mod Spelling

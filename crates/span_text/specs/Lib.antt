@@ -1,3 +1,4 @@
+pub mod Canonical
 pub mod Grammar
 pub mod Scanning
 pub mod Spans

@@ -32,7 +32,7 @@ not-above false limit part e h = absurd (both-ways false refl e)
 not-below : (part : ℤ) → ltZ part (pos 0) ≡ false → pos 0 ≤ℤ part
 not-below part h = grind (arith, ints)
 
-none-below : (s : Span) → is-minus s ≡ false → None-below s
+pub none-below : (s : Span) → is-minus s ≡ false → None-below s
 none-below s h =
     let a = or-parts (ltZ (s .years) (pos 0)) _ h in
     let b = or-parts (ltZ (s .months) (pos 0)) _ (a .1) in
@@ -78,7 +78,7 @@ entered s a = record {
 }
 
 -- where some part is below nought, none is above
-below : (s : Span) → Enterable s → is-minus s ≡ true → None-above s
+pub below : (s : Span) → Enterable s → is-minus s ≡ true → None-above s
 below s e m = elim (e .signs) [ inl p ↦ absurd (both-ways (is-minus s) (plus s p) m) | inr n ↦ n ]
 
 pub all-right : (s : Span) → Enterable s → All-right s
