@@ -1,3 +1,4 @@
+pub mod Cuts
 pub mod LineLive
 pub mod LineSound
 pub mod LineComplete

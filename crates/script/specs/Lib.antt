@@ -1,2 +1,4 @@
+pub mod Cutting
 pub mod Lines
 pub mod Scanning
+pub mod Scripts

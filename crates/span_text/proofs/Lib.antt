@@ -1,8 +1,11 @@
-pub mod Fractions
-pub mod Complete
-pub mod Live
-pub mod Sound
 pub mod Answering
+pub mod Complete
+pub mod Endings
+pub mod Fractions
+pub mod Lengths
+pub mod Live
 pub mod Numerals
-pub mod RoundTrip
+pub mod Pieces
+pub mod ReadBack
+pub mod Sound
 pub mod Spelling

@@ -24,41 +24,17 @@ use Rattle.span_text.specs.Grammar.{micros-of, Closes, Spelt, Span-text}
 use Rattle.span_text.specs.Grammar.Closes.{years, months, weeks, days, hours, minutes, seconds}
 use Rattle.span_text.specs.Grammar.Spelt.{plus, minus, part, time, fraction}
 use Rattle.span_text.specs.Scanning.{rank-of, unsaid, put, put-seconds}
+use Rattle.span_text.proofs.Pieces.{part-none, part-some, seconds-none, seconds-some, time-none, time-some, span-nought}
 use Rattle.span_text.proofs.Numerals.{decimal-digits, decimal-value, fraction-some-digits, fraction-value}
 
--- ── pieces of the text ──
+-- ── the text, grouped to the right ──
 
-part-none : (n : ℕ) (l : List ℕ) → n ≡ 0 → part-text n l ≡ []
-unfolding part-text
-part-none n l e = let z : eqb n 0 ≡ true = eq-eqb n 0 e in simp z
+seconds-right : (m : ℕ) → (m ≡ 0 → ⊥) → seconds-text m ≡ decimal (m / 1000000) ++ (point-text m ++ (83 ∷ []))
+seconds-right m e = seconds-some m e ∙ simp append-assoc
 
-part-some : (n : ℕ) (l : List ℕ) → (n ≡ 0 → ⊥) → part-text n l ≡ decimal n ++ l
-unfolding part-text
-part-some n l e = let z : eqb n 0 ≡ false = ne-eqb n 0 e in simp z
-
-seconds-none : (m : ℕ) → m ≡ 0 → seconds-text m ≡ []
-unfolding seconds-text
-seconds-none m e = let z : eqb m 0 ≡ true = eq-eqb m 0 e in simp z
-
-seconds-some : (m : ℕ) → (m ≡ 0 → ⊥) → seconds-text m ≡ decimal (m / 1000000) ++ (point-text m ++ (83 ∷ []))
-unfolding seconds-text
-seconds-some m e = let z : eqb m 0 ≡ false = ne-eqb m 0 e in simp (z, append-assoc)
-
-time-none : (t : ℕ) → t ≡ 0 → time-text t ≡ []
-unfolding time-text
-time-none t e = let z : eqb t 0 ≡ true = eq-eqb t 0 e in simp z
-
-time-some : (t : ℕ) → (t ≡ 0 → ⊥) → time-text t ≡ clock-text t
-unfolding time-text
-time-some t e = let z : eqb t 0 ≡ false = ne-eqb t 0 e in simp z
-
-span-nought : (s : Span) → is-nought s ≡ true → span-text s ≡ codes "PT0S"
+span-right : (s : Span) → is-nought s ≡ false → span-text s ≡ sign-text (is-minus s) ++ (80 ∷ (date-text s ++ time-text (natAbs (s .time))))
 unfolding span-text
-span-nought s e = rw e refl
-
-span-some : (s : Span) → is-nought s ≡ false → span-text s ≡ sign-text (is-minus s) ++ (80 ∷ (date-text s ++ time-text (natAbs (s .time))))
-unfolding span-text
-span-some s e = rw e (simp append-assoc)
+span-right s e = rw e (simp append-assoc)
 
 -- ── spelling it ──
 
@@ -85,19 +61,19 @@ rising (seconds h g) = g
 part-on : {d e : Designator} {l : ℕ} {p : List ℕ} {f : Fields} → Spelt d p f → Closes d e l → (n : ℕ) → n < 10 ^ 9 → put f e 0 ≡ f → Onward d e l n p f
 part-on {d} {e} {l} {p} {f} h c n small q = elim (cases-eq n 0) [
   | inl z ↦ record {
-      last = d;
-      spelt = respelt (sym (ap (λ (x : List ℕ). p ++ x) (part-none n (l ∷ []) z) ∙ append-nil p)) (sym q ∙ ap (put f e) (sym z)) h;
-      low = omega arith;
-      high = omega (arith, rising c);
-      there = λ g. absurd (omega arith);
-    }
+    last = d;
+    spelt = respelt (sym (ap (λ (x : List ℕ). p ++ x) (part-none n (l ∷ []) z) ∙ append-nil p)) (sym q ∙ ap (put f e) (sym z)) h;
+    low = omega arith;
+    high = omega (arith, rising c);
+    there = λ g. absurd (omega arith);
+  }
   | inr z ↦ record {
-      last = e;
-      spelt = respelt (ap (λ (x : List ℕ). p ++ x) (sym (part-some n (l ∷ []) z))) (ap (put f e) (decimal-value n small)) (part h c (decimal n) (decimal-digits n small));
-      low = omega (arith, rising c);
-      high = omega arith;
-      there = λ g. refl;
-    }
+    last = e;
+    spelt = respelt (ap (λ (x : List ℕ). p ++ x) (sym (part-some n (l ∷ []) z))) (ap (put f e) (decimal-value n small)) (part h c (decimal n) (decimal-digits n small));
+    low = omega (arith, rising c);
+    high = omega arith;
+    there = λ g. refl;
+  }
 ]
 
 abbrev F : Bool → ℕ → ℕ → ℕ → ℕ → ℕ → ℕ → ℕ → ℕ → Fields
@@ -126,7 +102,8 @@ dated s b p l h =
         nought-if (natAbs (s .years)) (rank-of (o1 .last)) 1 (o1 .there) (omega (arith, o2 .low, o3 .low, o4 .low)),
         nought-if (natAbs (s .months)) (rank-of (o2 .last)) 2 (o2 .there) (omega (arith, o3 .low, o4 .low)),
         nought-if (natAbs (s .weeks)) (rank-of (o3 .last)) 3 (o3 .there) (omega (arith, o4 .low)),
-        nought-if (natAbs (s .days)) (rank-of (o4 .last)) 4 (o4 .there) (omega arith));
+        nought-if (natAbs (s .days)) (rank-of (o4 .last)) 4 (o4 .there) (omega arith),
+      );
     }
 
 -- the seconds of so many microseconds past the minute, or nothing where they are nought
@@ -138,11 +115,11 @@ record Sounded (d : Designator) (m : ℕ) (p : List ℕ) (f : Fields) : Type 0 w
 
 seconds-whole : {d : Designator} {p : List ℕ} {f : Fields} (m : ℕ) → Spelt d p f → 5 ≤ rank-of d → rank-of d < 8 → f .micros ≡ 0 → m < 60000000 → (m ≡ 0 → ⊥) → m % 1000000 ≡ 0 → Sounded d m p f
 seconds-whole {d} {p} {f} m h lo hi none small some z =
-    let t : decimal (m / 1000000) ++ (83 ∷ []) ≡ seconds-text m = sym (seconds-some m some ∙ ap (λ (x : List ℕ). decimal (m / 1000000) ++ (x ++ (83 ∷ []))) (point-none m z)) in
+    let t : decimal (m / 1000000) ++ (83 ∷ []) ≡ seconds-text m = sym (seconds-right m some ∙ ap (λ (x : List ℕ). decimal (m / 1000000) ++ (x ++ (83 ∷ []))) (point-none m z)) in
     record {
       last = Seconds;
       spelt = respelt (ap (λ (x : List ℕ). p ++ x) t) (ap (λ n. put-seconds f n (f .micros)) (decimal-value (m / 1000000) (omega arith)) ∙ ap (put-seconds f (m / 1000000)) (none ∙ sym z))
-        (part h (seconds lo hi) (decimal (m / 1000000)) (decimal-digits (m / 1000000) (omega arith)));
+          (part h (seconds lo hi) (decimal (m / 1000000)) (decimal-digits (m / 1000000) (omega arith)));
       low = omega arith;
       there = λ _. refl;
     }
@@ -151,11 +128,11 @@ seconds-part : {d : Designator} {p : List ℕ} {f : Fields} (m : ℕ) → Spelt 
 seconds-part {d} {p} {f} m h lo hi small some n =
     let few : m % 1000000 < 10 ^ 6 = omega arith in
     let t : decimal (m / 1000000) ++ (46 ∷ (fraction-digits 6 (m % 1000000) ++ (83 ∷ []))) ≡ seconds-text m =
-      sym (seconds-some m some ∙ ap (λ (x : List ℕ). decimal (m / 1000000) ++ (x ++ (83 ∷ []))) (point-some m n)) in
+    sym (seconds-right m some ∙ ap (λ (x : List ℕ). decimal (m / 1000000) ++ (x ++ (83 ∷ []))) (point-some m n)) in
     record {
       last = Seconds;
       spelt = respelt (ap (λ (x : List ℕ). p ++ x) t) (ap (λ x. put-seconds f x (micros-of (fraction-digits 6 (m % 1000000)))) (decimal-value (m / 1000000) (omega arith)) ∙ ap (put-seconds f (m / 1000000)) (fraction-value (m % 1000000) few))
-        (fraction h lo hi (decimal (m / 1000000)) (fraction-digits 6 (m % 1000000)) (decimal-digits (m / 1000000) (omega arith)) (fraction-some-digits (m % 1000000) few n));
+          (fraction h lo hi (decimal (m / 1000000)) (fraction-digits 6 (m % 1000000)) (decimal-digits (m / 1000000) (omega arith)) (fraction-some-digits (m % 1000000) few n));
       low = omega arith;
       there = λ _. refl;
     }
@@ -231,7 +208,7 @@ opening false = plus
 text-is : (s : Span) → is-nought s ≡ false → ((sign-text (is-minus s) ++ (80 ∷ [])) ++ date-text s) ++ time-text (natAbs (s .time)) ≡ span-text s
 text-is s n =
     let x : ((sign-text (is-minus s) ++ (80 ∷ [])) ++ date-text s) ++ time-text (natAbs (s .time)) ≡ sign-text (is-minus s) ++ (80 ∷ (date-text s ++ time-text (natAbs (s .time)))) = simp append-assoc in
-    x ∙ sym (span-some s n)
+    x ∙ sym (span-right s n)
 
 all-nought : (s : Span) → natAbs (s .years) ≡ 0 → natAbs (s .months) ≡ 0 → natAbs (s .weeks) ≡ 0 → natAbs (s .days) ≡ 0 → natAbs (s .time) ≡ 0 → is-nought s ≡ true
 all-nought s y m w d t =
@@ -244,8 +221,8 @@ some-spelling s l n =
     elim (cases-eq (natAbs (s .time)) 0) [
       | inl e ↦ full (d .last)
           (respelt (sym (append-nil (p ++ date-text s)) ∙ (ap (λ (z : List ℕ). (p ++ date-text s) ++ z) (sym (time-none (natAbs (s .time)) e)) ∙ text-is s n))
-            (ap (λ t. F (is-minus s) (natAbs (s .years)) (natAbs (s .months)) (natAbs (s .weeks)) (natAbs (s .days)) (t / 3600000000) (t / 60000000 % 60) (t % 60000000 / 1000000) (t % 60000000 % 1000000)) (sym e))
-            (d .spelt))
+          (ap (λ t. F (is-minus s) (natAbs (s .years)) (natAbs (s .months)) (natAbs (s .weeks)) (natAbs (s .days)) (t / 3600000000) (t / 60000000 % 60) (t % 60000000 / 1000000) (t % 60000000 % 1000000)) (sym e))
+          (d .spelt))
           (λ z. let o = d .none z in both-ways (is-nought s) n (all-nought s (o .0) (o .1) (o .2) (o .3) e)) (λ z. omega (arith, d .high))
       | inr e ↦
           let o = timed s (is-minus s) (d .last) (p ++ date-text s) l (d .spelt) (d .high) e in

@@ -1,4 +1,5 @@
 pub mod Canonical
 pub mod Grammar
+pub mod RoundTrip
 pub mod Scanning
 pub mod Spans

@@ -8,7 +8,7 @@ use lib.Dec.{eqb}
 use lib.ListN.{length, take, set, replicate, length-set}
 use mathlib.Core.Bool.{true, false}
 use Rattle.std.proofs.shelf.Lists.{take-more-set}
-use Rattle.std.proofs.shelf.Tests.{ne-eqb, eq-eqb}
+use Rattle.std.proofs.shelf.Tests.{ne-eqb, eq-eqb, cond-both}
 use Rattle.writing.specs.Fractions.{fraction-digits, point-text}
 
 pub point-none : (micros : ℕ) → micros % 1000000 ≡ 0 → point-text micros ≡ []
@@ -86,3 +86,16 @@ pub going-end : (micros : ℕ) {text : List ℕ} {count unit rest : ℕ} → Goi
 going-end micros {text} {count} {rest} g some h =
     let z : rest ≡ 0 = omega arith in
     sym (append-nil (take count text)) ∙ (rw (z, fraction-none) at (g .whole) ∙ sym (point-some micros some))
+
+-- ── its length ──
+
+fraction-short : (places rest : ℕ) → length (fraction-digits places rest) ≤ places
+unfolding fraction-digits
+fraction-short zero rest = omega arith
+fraction-short (suc places) rest =
+    cond-both (eqb rest 0) _ _ (λ (z : List ℕ). length z ≤ suc places) (λ _. omega arith) (λ _. omega (arith, fraction-short places (rest % 10 ^ places)))
+
+pub point-short : (micros : ℕ) → length (point-text micros) ≤ 7
+unfolding point-text
+point-short micros =
+    cond-both (eqb (micros % 1000000) 0) _ _ (λ (z : List ℕ). length z ≤ 7) (λ _. omega arith) (λ _. omega (arith, fraction-short 6 (micros % 1000000)))

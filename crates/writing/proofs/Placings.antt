@@ -1,14 +1,14 @@
 -- The laws of placing.
-use mathlib.Core.Path.{_≡_, sym, ap, refl, _∙_}
+use mathlib.Core.Path.{_≡_, sym, ap, _∙_}
 use mathlib.Core.Logic.{_⊎_, inl, inr}
 use mathlib.Core.List.{List, [], _∷_, _++_, append-assoc, append-nil}
-use Prim.Native.Nat.{ℕ, zero, suc, min, _+_, _-_, _<_, _≤_}
+use Prim.Native.Nat.{ℕ, zero, suc, min, _+_, _-_, _≤_}
 use native.Mathlib.Nat.{add-zero, zero-add, zero-sub, sub-zero, suc-sub-suc}
 use native.Mathlib.Omega.{arith}
 use lib.ListN.{length, take, drop, length-append, length-take, length-drop}
 use Rattle.std.proofs.shelf.Lists.{take-all, take-at, drop-all, drop-at, drop-drop, take-append-drop}
 use Rattle.std.proofs.shelf.Tests.{cases-lt}
-use Rattle.writing.specs.Placing.{fitting, Placed}
+use Rattle.writing.specs.Placing.{fitting, Goes-on, Placed}
 
 -- ── what fits ──
 
@@ -83,6 +83,11 @@ placed-more {a} {b} {c} {s} {t} {i} {j} {k} p q =
       end = rw fits (omega (arith, p .end, q .end, n));
       is = q .is ∙ rw (placed-cut p .0, rest, fits) (simp append-assoc);
     }
+
+-- both clauses of a function whose callers put more after it
+pub placed-onward : {before piece after : List ℕ} {at r : ℕ} → Placed before at piece after r
+    → record { text : Placed before at piece after r; onward : Goes-on before at piece after r }
+placed-onward p = record { text = p; onward = λ first start front q. placed-more q p }
 
 -- a text for which there is room
 pub placed-whole : {a b s : List ℕ} {i j : ℕ} → Placed a i s b j → i + length s ≤ length a
