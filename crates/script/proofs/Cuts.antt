@@ -58,13 +58,20 @@ module _ (text line rest : List ℕ) (end : ℕ) (some : 0 < length text) (is : 
   cut : rest ≡ drop (end + 1) text → lines-of text ≡ line ∷ lines-of rest
   cut back = first-line text some ∙ (ap (λ n. take n text ∷ lines-of (drop (n + 1) text)) (sym is) ∙ rw (front, back) refl)
 
-  pub cut-at : (back : List ℕ) → back ≡ drop end text → 0 < length back → rest ≡ take (length back - 1) (drop 1 back) → (lines-of text ≡ line ∷ lines-of rest) × (length rest < length text)
+  short : length line ≤ length text
+  short = omega (arith, ap length front, length-take end text)
+
+  pub cut-at : (back : List ℕ) → back ≡ drop end text → 0 < length back → rest ≡ take (length back - 1) (drop 1 back) → (lines-of text ≡ line ∷ lines-of rest) × (length rest < length text) × (length line ≤ length text)
   cut-at back e m r =
       let x : rest ≡ drop (end + 1) text = r ∙ (take-rest back 1 ∙ (ap (drop 1) e ∙ drop-drop 1 end text)) in
-      (cut x, omega (arith, ap length x, length-drop (end + 1) text))
+      (cut x, omega (arith, ap length x, length-drop (end + 1) text), short)
 
-  pub cut-all : rest ≡ drop end text → length rest ≡ 0 → (lines-of text ≡ line ∷ lines-of rest) × (length rest < length text)
+  pub cut-all : rest ≡ drop end text → length rest ≡ 0 → (lines-of text ≡ line ∷ lines-of rest) × (length rest < length text) × (length line ≤ length text)
   cut-all e z =
       let l : length text ≤ end + 1 = omega (arith, ap length e, length-drop end text) in
       let x : rest ≡ drop (end + 1) text = nothing rest z ∙ sym (drop-all (end + 1) text l) in
-      (cut x, omega arith)
+      (cut x, omega arith, short)
+
+pub no-lines : lines-of [] ≡ []
+unfolding lines-of
+no-lines = refl

@@ -22,7 +22,7 @@ fn line_length(text: &[u8]) -> usize
 
 // The first line of a text, and the text after it; none where nothing is left.
 pub(crate) fn next_line(text: &[u8]) -> Option<(&[u8], &[u8])>
-    ensures { λ r. ⌜ Cases r (now (text .entry) ≡ []) (λ p. (lines-of (now (text .entry)) ≡ now (p .0) ∷ lines-of (now (p .1))) × (length (now (p .1)) < length (now (text .entry)))) ⌝ }
+    ensures { λ r. ⌜ Cases r (now (text .entry) ≡ []) (λ p. (lines-of (now (text .entry)) ≡ now (p .0) ∷ lines-of (now (p .1))) × (length (now (p .1)) < length (now (text .entry))) × (length (now (p .0)) ≤ length (now (text .entry)))) ⌝ }
 {
     if text.is_empty() {
         return None;
