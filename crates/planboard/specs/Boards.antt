@@ -39,10 +39,13 @@ entered-by spans slot (Err fault) = spans
 abbrev pub entered : List (Option Span) → ℕ → List ℕ → List (Option Span)
 entered spans slot text = entered-by spans slot (enter-answer spans slot text)
 
--- the same in words: off the shelf is refused first; then the text alone decides; what it says stands in the slot and nothing else
--- has changed; a refusal alters nothing
+-- the same in words: off the shelf is refused first; then the text alone decides
+pub record Entry-checked (spans : List (Option Span)) (slot : ℕ) (text : List ℕ) (answer : Result Span Fault) : Type 0 where
+  pub off-shelf : slot-count 256 spans ≤ slot → answer ≡ Err (SlotOff 0)
+  pub on-shelf : slot < slot-count 256 spans → Answered text answer
+
+-- and what the text says stands in the slot, and nothing else has changed; a refusal alters nothing
 pub record Entering (before : List (Option Span)) (slot : ℕ) (text : List ℕ) (answer : Result Span Fault) (after : List (Option Span)) : Type 0 where
-  pub off-shelf : slot-count 256 before ≤ slot → answer ≡ Err (SlotOff 0)
-  pub on-shelf : slot < slot-count 256 before → Answered text answer
+  pub checked : Entry-checked before slot text answer
   pub accepted : (s : Span) → answer ≡ Ok s → Enterable s × Only-slot-changed 256 before slot (Some s) after
   pub refused : (fault : Fault) → answer ≡ Err fault → after ≡ before

@@ -1,7 +1,7 @@
 // A board: what stands on its shelves, and the calls that alter it.
 ghost use denote.Ref.{name};
 ghost use mathlib.Core.Path.{_≡_};
-ghost use Rattle.planboard.specs.Boards.{span-memory, span-lender, enter-answer, entered, Entering};
+ghost use Rattle.planboard.specs.Boards.{span-memory, span-lender, enter-answer, entered, Entering, Entry-checked};
 ghost use Rattle.planboard.specs.Laws.{All-empty};
 ghost use Rattle.planboard.specs.Slots.{emptied};
 use crate::shelf::SLOTS_MOST;
@@ -35,11 +35,19 @@ impl<'a> Board<'a> {
         ensures law { λ r. ⌜ Entering (span-memory (now (self .entry))) slot (now (text .entry)) r (span-memory (now (self .exit))) ⌝ }
         ensures lent { λ _. ⌜ span-lender (now (self .exit)) ≡ span-lender (now (self .entry)) ⌝ }
     {
+        let span = self.check_entry(slot, text)?;
+        let _ = self.spans.put(slot, span);
+        Ok(span)
+    }
+
+    // The span that a text would enter into a slot.
+    fn check_entry(&self, slot: usize, text: &[u8]) -> Result<Span, Fault>
+        ensures value { λ r. ⌜ r ≡ enter-answer (span-memory (now (self .entry))) slot (now (text .entry)) ⌝ }
+        ensures law { λ r. ⌜ Entry-checked (span-memory (now (self .entry))) slot (now (text .entry)) r ⌝ }
+    {
         if slot >= self.spans.len() {
             return Err(Fault::SlotOff { slot: 0 });
         }
-        let span = read_span(text)?;
-        let _ = self.spans.put(slot, span);
-        Ok(span)
+        read_span(text)
     }
 }

@@ -130,5 +130,11 @@ pub fn read_line(line: &[u8]) -> Result<SpanLine, usize>
     ensures value { λ r. ⌜ r ≡ read-line (now (line .entry)) ⌝ }
     ensures grammar { λ r. ⌜ Answers-within Span-line 160 (now (line .entry)) r ⌝ }
 {
+    scan_line(line)
+}
+
+fn scan_line(line: &[u8]) -> Result<SpanLine, usize>
+    ensures { λ r. ⌜ r ≡ read-line (now (line .entry)) ⌝ }
+{
     within_limit(read(Progress::Command(0), line), line.len(), LINE_LIMIT)
 }

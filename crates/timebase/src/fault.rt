@@ -3,12 +3,10 @@ ghost use mathlib.Core.Path.{_≡_};
 ghost use Rattle.timebase.specs.Faults.{at-place, told as told-by};
 ghost use Rattle.timebase.specs.declared.fault.Fault.{Fault as AnyFault};
 use crate::span::Part;
-use crate::span::PartDebug;
-use crate::span::PartPartialEq;
 
 // A refusal, in the order in which a call makes its checks. Slots of a call and parts of a span count from 0, and so do
 // the bytes of a text.
-#[derive(Clone, Copy, PartialEq, Eq, Debug)]
+#[derive(Clone, Copy)]
 pub enum Fault {
     // a slot of the call is off the shelf
     SlotOff { slot: u8 },
@@ -39,7 +37,7 @@ pub enum Fault {
 }
 
 // What a refusal tells: its number, and its place, cause and depth, which are 0 where it has none.
-#[derive(Clone, Copy, PartialEq, Eq, Debug)]
+#[derive(Clone, Copy)]
 pub struct Told {
     pub number: u8,
     pub place: usize,

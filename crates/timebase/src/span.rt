@@ -4,7 +4,7 @@ ghost use Rattle.std.specs.Options.{Cases};
 ghost use Rattle.timebase.specs.Spans.{Enterable, is-minus, is-wrong, part-limit, time-limit, wrong-part};
 
 // A part of a span, in their order.
-#[derive(Clone, Copy, PartialEq, Eq, Debug)]
+#[derive(Clone, Copy)]
 pub enum Part {
     Years,
     Months,
@@ -21,7 +21,7 @@ pub const TIME_LIMIT: u64 = 400_000_000_000_000_000;
 
 // What lies between two marks: calendar parts, which are counted in a mark's own calendar, and a time in microseconds.
 // A span that a text can enter has parts of one sign, within their limits; one that a host wrote into its memory may not.
-#[derive(Clone, Copy, PartialEq, Eq, Debug)]
+#[derive(Clone, Copy)]
 pub struct Span {
     pub years: i32,
     pub months: i32,
@@ -55,6 +55,13 @@ impl Span {
     pub fn wrong_part(&self) -> Option<Part>
         ensures value { λ r. ⌜ r ≡ wrong-part (now (self .entry)) ⌝ }
         ensures law { λ r. ⌜ Cases r (Enterable (now (self .entry))) (λ _. Enterable (now (self .entry)) → ⊥) ⌝ }
+    {
+        self.first_wrong()
+    }
+
+    // The tests of `wrong_part`, one after another.
+    fn first_wrong(&self) -> Option<Part>
+        ensures { λ r. ⌜ r ≡ wrong-part (now (self .entry)) ⌝ }
     {
         let minus = self.is_minus();
         if is_wrong_count(minus, self.years) {

@@ -1,7 +1,7 @@
 // Signed division with its remainder, as a pair: rounding downward for clock times and day counts, toward zero for weeks.
 ghost use mathlib.Core.Path.{_≡_};
 ghost use lib.IntN.{pos};
-ghost use lib.Signed.{quotZ, remZ};
+ghost use lib.Signed.{quotZ, remZ, _<ℤ_};
 ghost use Rattle.timebase.specs.Splits.{floor-quotient, floor-rest, Floor, Toward-zero};
 ghost use Rattle.timebase.specs.Divisors.{divisor-value};
 use crate::divisor::Divisor;
@@ -22,6 +22,14 @@ pub fn split_toward_zero(n: i64, by: Divisor) -> (i64, i64)
     ensures rest { λ r. ⌜ r .1 ≡ remZ n (pos (divisor-value by)) ⌝ }
     ensures law { λ r. ⌜ Toward-zero n (divisor-value by) (r .0) (r .1) ⌝ }
 {
-    let by = by.get() as i64;
+    truncate(n, by.get() as i64)
+}
+
+// The machine's own division.
+fn truncate(n: i64, by: i64) -> (i64, i64)
+    requires { ⌜ pos 0 <ℤ by ⌝ }
+    ensures quotient { λ r. ⌜ r .0 ≡ quotZ n by ⌝ }
+    ensures rest { λ r. ⌜ r .1 ≡ remZ n by ⌝ }
+{
     (n / by, n % by)
 }
