@@ -1,0 +1,53 @@
+// What a calendar is told by: the rule of its years.
+ghost use lib.IntN.{ℤ};
+ghost use Prim.Native.Nat.{ℕ};
+ghost use mathlib.Core.Path.{_≡_};
+ghost use Rattle.years.specs.Dates.{Shape};
+ghost use Rattle.years.specs.Days.{Fitting, InRange, Near};
+ghost use Rattle.years.specs.Rules.{YearAnswer};
+ghost use Rattle.years.specs.declared.date.Date.{Date as AnyDate};
+
+// The most months of a year.
+pub const MONTHS_MOST: usize = 14;
+
+// One year: the day number on which it starts (which may lie before day 1), its days, its months, and the length of each
+// month; the lengths past the months are 0.
+#[derive(Clone, Copy)]
+pub struct Year {
+    pub start: i32,
+    pub days: u16,
+    pub months: u8,
+    pub lengths: [u8; MONTHS_MOST],
+}
+
+// The rule of a calendar's years. `shape` is the months of each year and their lengths, `start` the day number on which a
+// year starts; the calendar's years go from `first` up to, but without, `past`, and `origin` is the date of day 1. The law
+// is all that a calendar owes: its years fit together.
+pub trait YearRule {
+    ghost shape: { Self → Shape };
+
+    ghost start: { Self → ℤ → ℤ };
+
+    ghost first: { Self → ℤ };
+
+    ghost past: { Self → ℤ };
+
+    ghost origin: { Self → AnyDate };
+
+    law fitting: { (c : Self) → Fitting (shape c) (start c) (first c) (past c) (origin c) };
+
+    fn first_year(&self) -> i32
+        ensures { λ r. ⌜ r ≡ first (now (self .entry)) ⌝ };
+
+    // one past the last year
+    fn past_year(&self) -> i32
+        ensures { λ r. ⌜ r ≡ past (now (self .entry)) ⌝ };
+
+    // A year of the calendar; none for one that isn't there.
+    fn year(&self, year: i32) -> Option<Year>
+        ensures { λ r. ⌜ YearAnswer (shape (now (self .entry))) (start (now (self .entry))) (first (now (self .entry))) (past (now (self .entry))) year r ⌝ };
+
+    // A guess at the year of a day number, at most one year off.
+    fn estimate(&self, day: u32) -> i32
+        ensures { λ r. ⌜ (InRange day → Near (start (now (self .entry))) (first (now (self .entry))) (past (now (self .entry))) day r) ⌝ };
+}
