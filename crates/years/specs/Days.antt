@@ -48,3 +48,13 @@ pub record Near (start : ℤ → ℤ) (lo hi : ℤ) (n : ℕ) (guess : ℤ) : Ty
   pub ends : pos n <ℤ start (year +ℤ pos 1)
   pub not-before : (year -ℤ pos 1) ≤ℤ guess
   pub not-after : guess ≤ℤ (year +ℤ pos 1)
+
+-- the first year is that of day 1, and the last that of the last day
+pub record Bounded (start : ℤ → ℤ) (lo hi : ℤ) (origin : Date) : Type 0 where
+  pub first : origin .year ≡ lo
+  pub last : start (hi -ℤ pos 1) ≤ℤ pos 3652059
+
+-- the twin of a month in another year is a month of that year; in its own year it is itself
+pub record Twins (s : Shape) (lo hi : ℤ) (twin : ℤ → ℕ → ℤ → ℕ) : Type 0 where
+  pub inside : (y : ℤ) (m : ℕ) (z : ℤ) → lo ≤ℤ y → y <ℤ hi → 1 ≤ m → m ≤ s .months y → lo ≤ℤ z → z <ℤ hi → (1 ≤ twin y m z) × (twin y m z ≤ s .months z)
+  pub same : (y : ℤ) (m : ℕ) → lo ≤ℤ y → y <ℤ hi → 1 ≤ m → m ≤ s .months y → twin y m y ≡ m

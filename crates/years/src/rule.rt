@@ -3,7 +3,7 @@ ghost use lib.IntN.{ℤ};
 ghost use Prim.Native.Nat.{ℕ};
 ghost use mathlib.Core.Path.{_≡_};
 ghost use Rattle.years.specs.Dates.{Shape};
-ghost use Rattle.years.specs.Days.{Fitting, InRange, Near};
+ghost use Rattle.years.specs.Days.{Fitting, Bounded, InRange, Near, Twins};
 ghost use Rattle.years.specs.Rules.{YearAnswer};
 ghost use Rattle.years.specs.declared.date.Date.{Date as AnyDate};
 
@@ -21,8 +21,9 @@ pub struct Year {
 }
 
 // The rule of a calendar's years. `shape` is the months of each year and their lengths, `start` the day number on which a
-// year starts; the calendar's years go from `first` up to, but without, `past`, and `origin` is the date of day 1. The law
-// is all that a calendar owes: its years fit together.
+// year starts; the calendar's years go from `first` up to, but without, `past`, and `origin` is the date of day 1. The laws
+// are all that a calendar owes: its years fit together, the first is that of day 1 and the last that of the last day, and
+// twins are months of their years.
 pub trait YearRule {
     ghost shape: { Self → Shape };
 
@@ -34,7 +35,14 @@ pub trait YearRule {
 
     ghost origin: { Self → AnyDate };
 
+    // The month of the second year that is the twin of a month of the first.
+    ghost twin: { Self → ℤ → ℕ → ℤ → ℕ };
+
     law fitting: { (c : Self) → Fitting (shape c) (start c) (first c) (past c) (origin c) };
+
+    law bounded: { (c : Self) → Bounded (start c) (first c) (past c) (origin c) };
+
+    law twins: { (c : Self) → Twins (shape c) (first c) (past c) (twin c) };
 
     fn first_year(&self) -> i32
         ensures { λ r. ⌜ r ≡ first (now (self .entry)) ⌝ };
@@ -50,4 +58,8 @@ pub trait YearRule {
     // A guess at the year of a day number, at most one year off.
     fn estimate(&self, day: u32) -> i32
         ensures { λ r. ⌜ (InRange day → Near (start (now (self .entry))) (first (now (self .entry))) (past (now (self .entry))) day r) ⌝ };
+
+    // The twin of a month in another year.
+    fn twin_month(&self, year: i32, month: u8, other: i32) -> u8
+        ensures { λ r. ⌜ r ≡ twin (now (self .entry)) year month other ⌝ };
 }

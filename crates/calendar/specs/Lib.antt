@@ -1,0 +1,3 @@
+pub mod Calendars
+pub mod Joining
+pub mod Singles

@@ -1,0 +1,3 @@
+// Calendar sources: tables of calendars, known by what they mean.
+pub mod beside;
+pub mod source;
