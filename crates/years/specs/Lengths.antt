@@ -30,3 +30,20 @@ pub record Stands (r : Year) (rest m d : ℕ) : Type 0 where
 abbrev pub MonthAnswer : Year → ℕ → Option (ℕ × ℕ) → Type 0
 MonthAnswer r rest (Some (m, d)) = Stands r rest m d
 MonthAnswer r rest None = first-days r 14 ≤ rest
+
+-- the year has the month, and the month the day
+pub record Has-day (r : Year) (m d : ℕ) : Type 0 where
+  pub month-low : 1 ≤ m
+  pub month-high : m ≤ r .months
+  pub day-low : 1 ≤ d
+  pub day-high : d ≤ getD (r .lengths) (m - 1) 0
+
+-- how many days after the first of the year the day of the month comes
+abbrev pub IntoAnswer : Year → ℕ → ℕ → Option ℕ → Type 0
+IntoAnswer r m d (Some n) = Has-day r m d × (n ≡ first-days r (m - 1) + (d - 1))
+IntoAnswer r m d None = Has-day r m d → ⊥
+
+-- a day number in range, if the number z is one
+abbrev pub NumberAnswer : ℤ → Option ℕ → Type 0
+NumberAnswer z (Some n) = InRange n × (z ≡ pos n)
+NumberAnswer z None = (n : ℕ) → InRange n → z ≡ pos n → ⊥

@@ -1,8 +1,12 @@
 // The dates of day numbers, and the day numbers of dates, from the rule of a calendar's years.
 ghost use Prim.Native.Nat.{ℕ, _+_, _-_, _*_, _<_, _≤_};
+ghost use lib.IntN.{pos, _+ℤ_};
 ghost use mathlib.Core.Path.{_≡_};
-ghost use Rattle.years.specs.Lengths.{MonthAnswer, first-days};
+ghost use Rattle.years.specs.Lengths.{MonthAnswer, IntoAnswer, NumberAnswer, first-days};
 use super::rule::Year;
+
+// The last day number.
+pub const LAST_DAY: u32 = 3_652_059;
 
 // The month and the day of the day that comes `rest` days after the first of the year; none past the year's end.
 fn month_and_day(year: &Year, rest: u32) -> Option<(u8, u8)>
@@ -17,4 +21,43 @@ fn month_and_day(year: &Year, rest: u32) -> Option<(u8, u8)>
         left -= length;
     }
     None
+}
+
+// The days of the year's first months.
+fn days_of_months(year: &Year, months: usize) -> u32
+    requires { ⌜ months ≤ 14 ⌝ }
+    ensures is { λ r. ⌜ r ≡ first-days (now (year .entry)) months ⌝ }
+    ensures few { λ r. ⌜ r ≤ 255 * months ⌝ }
+{
+    let mut days = 0;
+    for length in &year.lengths[..months] {
+        days += u32::from(*length);
+    }
+    days
+}
+
+// How many days after the first of the year the day of the month comes; none where the year has no such day.
+fn days_into(year: &Year, month: u8, day: u8) -> Option<u32>
+    requires { ⌜ now year .months ≤ 14 ⌝ }
+    ensures { λ r. ⌜ IntoAnswer (now (year .entry)) month day r ⌝ }
+{
+    if month < 1 || month > year.months {
+        return None;
+    }
+    let before = usize::from(month) - 1;
+    if day < 1 || day > year.lengths[before] {
+        return None;
+    }
+    Some(days_of_months(year, before) + u32::from(day) - 1)
+}
+
+// The day number that comes `into` days after a year's start; none where it is out of range.
+fn numbered(start: i32, into: u32) -> Option<u32>
+    ensures { λ r. ⌜ NumberAnswer (start +ℤ pos into) r ⌝ }
+{
+    let number = i64::from(start) + i64::from(into);
+    if number < 1 || number > i64::from(LAST_DAY) {
+        return None;
+    }
+    Some(number as u32)
 }
