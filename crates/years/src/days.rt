@@ -2,8 +2,11 @@
 ghost use Prim.Native.Nat.{ℕ, _+_, _-_, _*_, _<_, _≤_};
 ghost use lib.IntN.{pos, _+ℤ_};
 ghost use mathlib.Core.Path.{_≡_};
+ghost use Rattle.years.specs.Days.{DayAnswer};
 ghost use Rattle.years.specs.Lengths.{MonthAnswer, IntoAnswer, NumberAnswer, first-days};
+use super::date::Date;
 use super::rule::Year;
+use super::rule::YearRule;
 
 // The last day number.
 pub const LAST_DAY: u32 = 3_652_059;
@@ -60,4 +63,13 @@ fn numbered(start: i32, into: u32) -> Option<u32>
         return None;
     }
     Some(number as u32)
+}
+
+// The day number of a date; none for a date that is no day's.
+pub fn day_of_date<R: YearRule>(rule: &R, date: Date) -> Option<u32>
+    ensures { λ r. ⌜ DayAnswer (R·YearRule .shape (now (rule .entry))) (R·YearRule .origin (now (rule .entry))) date r ⌝ }
+{
+    let year = rule.year(date.year)?;
+    let into = days_into(&year, date.month, date.day)?;
+    numbered(year.start, into)
 }
