@@ -7,14 +7,16 @@ use lib.IntN.{ℤ, pos, negℤ, _+ℤ_, _-ℤ_, natAbs}
 use lib.Signed.{_<ℤ_, _≤ℤ_}
 use Rattle.std.specs.declared.option.Option.{Option}
 use Rattle.std.specs.declared.option.Option.the-variants.{None, Some}
-use Rattle.std.proofs.shelf.Signed.{ints, by-ltZ}
+use Rattle.std.specs.Numbers.{maxZ, minZ}
+use Rattle.std.proofs.shelf.Signed.{ints, clamps, by-ltZ}
 use Rattle.years.specs.declared.date.Date.{Date}
 use Rattle.years.specs.declared.rule.Year.{Year}
 use Rattle.years.specs.Dates.{Shape, Valid, after, number, days-in, MonthDay}
 use Rattle.years.specs.Days.{Fitting, InRange, DateAnswer, DayAnswer, Near}
 use Rattle.years.specs.Rules.{Is-year, YearAnswer}
 use Rattle.years.specs.Lengths.{first-days, Has-day, NumberAnswer}
-use Rattle.years.proofs.Numbers.{There, there, found}
+use Rattle.years.specs.Places.{Lies, Beside, PlaceAnswer}
+use Rattle.years.proofs.Numbers.{There, there, found, start-rises}
 use Rattle.years.proofs.Within.{same-days}
 
 module _ (s : Shape) (start : ℤ → ℤ) (lo hi : ℤ) (o : Date) (f : Fitting s start lo hi o) where
@@ -64,3 +66,45 @@ module _ (s : Shape) (start : ℤ → ℤ) (lo hi : ℤ) (o : Date) (f : Fitting
       told (Some n) (g, q) =
           (g, found s start lo hi o f d n g (record { valid = valid; low = subst (λ (x : ℤ). lo ≤ℤ x) e (y .0); high = subst (λ (x : ℤ). x <ℤ hi) e (y .1); is = sym total ∙ q }))
       told None q = λ n g x. q n g (total ∙ there s start lo hi o f d n g x .is)
+
+module _ (s : Shape) (start : ℤ → ℤ) (lo hi : ℤ) (o : Date) (f : Fitting s start lo hi o) where
+  -- a guess, held within the calendar's years, stays near
+  pub beside : (n : ℕ) (guess g least most z : ℤ) → (InRange n → Near start lo hi n guess) → g ≡ guess → least ≡ lo → most ≡ hi -ℤ pos 1 →
+      z ≡ maxZ least (minZ g most) → Beside start lo hi n z
+  beside n guess g least most z k e p q h =
+      let some = f .some in
+      record { from = omega (arith, ints, clamps); upto = omega (arith, ints, clamps); near = λ r. held (k r) }
+    where
+      held : Near start lo hi n guess → Near start lo hi n z
+      held k =
+          let a = k .low in
+          let b = k .high in
+          let c = k .not-before in
+          let d = k .not-after in
+          record { year = k .year; low = a; high = b; starts = k .starts; ends = k .ends; not-before = omega (arith, ints, clamps); not-after = omega (arith, ints, clamps) }
+
+  lies-at : (n : ℕ) (guess y : ℤ) (k : Near start lo hi n guess) → k .year ≡ y → Lies start lo hi n y
+  lies-at n guess y k e = subst (Lies start lo hi n) e (record { from = k .low; upto = k .high; low = k .starts; high = k .ends })
+
+  -- a day before the guessed year lies in the year before
+  pub lies-before : (n : ℕ) (guess : ℤ) → Near start lo hi n guess → lo ≤ℤ guess → guess <ℤ hi → pos n <ℤ start guess → Lies start lo hi n (guess -ℤ pos 1)
+  lies-before n guess k from upto h =
+      let p : k .year <ℤ guess = by-ltZ (k .year) guess (λ l. l) (λ l. let r = start-rises s start lo hi (f .adds) guess (k .year) from l (let b = k .high in omega (arith, ints)) in let a = k .starts in absurd (omega (arith, ints))) in
+      let d = k .not-after in
+      lies-at n guess (guess -ℤ pos 1) k (omega (arith, ints))
+
+  -- one past its end, in the year after
+  pub lies-after : (n : ℕ) (guess : ℤ) → Near start lo hi n guess → lo ≤ℤ guess → guess <ℤ hi → start (guess +ℤ pos 1) ≤ℤ pos n → Lies start lo hi n (guess +ℤ pos 1)
+  lies-after n guess k from upto h =
+      let low = k .low in
+      let p : guess <ℤ k .year = by-ltZ guess (k .year) (λ l. l)
+          (λ l. let r = start-rises s start lo hi (f .adds) (k .year +ℤ pos 1) (guess +ℤ pos 1) (omega (arith, ints)) (omega (arith, ints)) (omega (arith, ints)) in let a = k .ends in absurd (omega (arith, ints))) in
+      let d = k .not-before in
+      lies-at n guess (guess +ℤ pos 1) k (omega (arith, ints))
+
+  -- the year that the rule answers for the year of a day
+  pub placed : (n : ℕ) (y z : ℤ) (r : Year) → InRange n → z ≡ y → Lies start lo hi n y → YearAnswer s start lo hi z (Some r) → PlaceAnswer s start lo hi n (Some (z, r))
+  placed n y z r g e l a = (g, subst (Lies start lo hi n) (sym e) l, a .2)
+
+  pub not-none : (n : ℕ) (y z : ℤ) → z ≡ y → Lies start lo hi n y → YearAnswer s start lo hi z None → ⊥
+  not-none n y z e l a = let m = subst (Lies start lo hi n) (sym e) l in a (m .from) (m .upto)

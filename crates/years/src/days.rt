@@ -1,9 +1,11 @@
 // The dates of day numbers, and the day numbers of dates, from the rule of a calendar's years.
 ghost use Prim.Native.Nat.{ℕ, _+_, _-_, _*_, _<_, _≤_};
 ghost use lib.IntN.{pos, _+ℤ_};
+ghost use lib.Signed.{ltZ, leZ};
 ghost use mathlib.Core.Path.{_≡_};
 ghost use Rattle.years.specs.Days.{DayAnswer};
 ghost use Rattle.years.specs.Lengths.{MonthAnswer, IntoAnswer, NumberAnswer, first-days};
+ghost use Rattle.years.specs.Places.{Beside, PlaceAnswer};
 use super::date::Date;
 use super::rule::Year;
 use super::rule::YearRule;
@@ -72,4 +74,25 @@ pub fn day_of_date<R: YearRule>(rule: &R, date: Date) -> Option<u32>
     let year = rule.year(date.year)?;
     let into = days_into(&year, date.month, date.day)?;
     numbered(year.start, into)
+}
+
+// Whether the year starts after the day.
+fn starts_after(year: &Year, day: u32) -> bool
+    ensures { λ r. ⌜ r ≡ ltZ (pos day) (now (year .entry) .start) ⌝ }
+{
+    i64::from(day) < i64::from(year.start)
+}
+
+// Whether the year is over by the day.
+fn ends_by(year: &Year, day: u32) -> bool
+    ensures { λ r. ⌜ r ≡ leZ (now (year .entry) .start +ℤ pos (now (year .entry) .days)) (pos day) ⌝ }
+{
+    i64::from(year.start) + i64::from(year.days) <= i64::from(day)
+}
+
+// A year of the calendar that is the day's, or one beside it.
+fn near_year<R: YearRule>(rule: &R, day: u32) -> i32
+    ensures { λ r. ⌜ Beside (R·YearRule .start (now (rule .entry))) (R·YearRule .first (now (rule .entry))) (R·YearRule .past (now (rule .entry))) day r ⌝ }
+{
+    rule.estimate(day).clamp(rule.first_year(), rule.past_year() - 1)
 }
