@@ -4,7 +4,9 @@ use mathlib.Core.Logic.{_⊎_, inl, inr, ⊎-elim}
 use Prim.Native.Nat.{ℕ, zero, suc, _+_, _-_, _≤_, _<_}
 use native.Mathlib.Omega.{arith}
 use lib.IntN.{ℤ, pos, negℤ, _+ℤ_, _-ℤ_, natAbs}
-use lib.Signed.{_<ℤ_, _≤ℤ_}
+use lib.Dec.{T}
+use lib.Signed.{_<ℤ_, _≤ℤ_, ltZ, leZ, ltZ-yes, ltZ-no, leZ-yes}
+use mathlib.Core.Bool.{Bool, true, false, not}
 use Rattle.std.specs.declared.option.Option.{Option}
 use Rattle.std.specs.declared.option.Option.the-variants.{None, Some}
 use Rattle.std.specs.Numbers.{maxZ, minZ}
@@ -67,6 +69,19 @@ module _ (s : Shape) (start : ℤ → ℤ) (lo hi : ℤ) (o : Date) (f : Fitting
           (g, found s start lo hi o f d n g (record { valid = valid; low = subst (λ (x : ℤ). lo ≤ℤ x) e (y .0); high = subst (λ (x : ℤ). x <ℤ hi) e (y .1); is = sym total ∙ q }))
       told None q = λ n g x. q n g (total ∙ there s start lo hi o f d n g x .is)
 
+-- what a test of the code tells
+lt-yes : (a b : ℤ) (t : Bool) → t ≡ ltZ a b → t ≡ true → a <ℤ b
+lt-yes a b t e u = ltZ-yes (subst T (sym u ∙ e) tt)
+
+lt-no : (a b : ℤ) (t : Bool) → t ≡ ltZ a b → t ≡ false → b ≤ℤ a
+lt-no a b t e u = ltZ-no (subst (λ (x : Bool). T (not x)) (sym u ∙ e) tt)
+
+le-yes : (a b : ℤ) (t : Bool) → t ≡ leZ a b → t ≡ true → a ≤ℤ b
+le-yes a b t e u = leZ-yes (subst T (sym u ∙ e) tt)
+
+le-no : (a b : ℤ) (t : Bool) → t ≡ leZ a b → t ≡ false → b <ℤ a
+le-no a b t e u = by-ltZ b a (λ l. l) (λ (m : a ≤ℤ b). absurd (subst T (sym e ∙ u) (m .le)))
+
 module _ (s : Shape) (start : ℤ → ℤ) (lo hi : ℤ) (o : Date) (f : Fitting s start lo hi o) where
   -- a guess, held within the calendar's years, stays near
   pub beside : (n : ℕ) (guess g least most z : ℤ) → (InRange n → Near start lo hi n guess) → g ≡ guess → least ≡ lo → most ≡ hi -ℤ pos 1 →
@@ -102,9 +117,37 @@ module _ (s : Shape) (start : ℤ → ℤ) (lo hi : ℤ) (o : Date) (f : Fitting
       let d = k .not-before in
       lies-at n guess (guess +ℤ pos 1) k (omega (arith, ints))
 
+  module _ (n : ℕ) (guess z : ℤ) (r : Year) (k : Beside start lo hi n guess) (g : InRange n) (e : z ≡ guess) (y : YearAnswer s start lo hi z (Some r)) where
+    is : Is-year s start guess r
+    is = subst (λ (x : ℤ). Is-year s start x r) e (y .2)
+
+    pub turn-before : (b : Bool) → b ≡ ltZ (pos n) (r .start) → b ≡ true → Lies start lo hi n (guess -ℤ pos 1)
+    turn-before b t u =
+        let h : pos n <ℤ r .start = lt-yes (pos n) (r .start) b t u in
+        let st = is .starts in
+        lies-before n guess (k .near g) (k .from) (k .upto) (omega (arith, ints))
+
+    pub turn-after : (b : Bool) → b ≡ leZ (r .start +ℤ pos (r .days)) (pos n) → b ≡ true → Lies start lo hi n (guess +ℤ pos 1)
+    turn-after b t u =
+        let h : (r .start +ℤ pos (r .days)) ≤ℤ pos n = le-yes (r .start +ℤ pos (r .days)) (pos n) b t u in
+        let st = is .starts in
+        let all = is .days in
+        let a = f .adds guess (k .from) (k .upto) in
+        lies-after n guess (k .near g) (k .from) (k .upto) (omega (arith, ints))
+
+    pub stay : (b c : Bool) → b ≡ ltZ (pos n) (r .start) → b ≡ false → c ≡ leZ (r .start +ℤ pos (r .days)) (pos n) → c ≡ false → Lies start lo hi n guess
+    stay b c t u v w =
+        let low : r .start ≤ℤ pos n = lt-no (pos n) (r .start) b t u in
+        let high : pos n <ℤ (r .start +ℤ pos (r .days)) = le-no (r .start +ℤ pos (r .days)) (pos n) c v w in
+        let st = is .starts in
+        let all = is .days in
+        let a = f .adds guess (k .from) (k .upto) in
+        record { from = k .from; upto = k .upto; low = omega (arith, ints); high = omega (arith, ints) }
+
   -- the year that the rule answers for the year of a day
   pub placed : (n : ℕ) (y z : ℤ) (r : Year) → InRange n → z ≡ y → Lies start lo hi n y → YearAnswer s start lo hi z (Some r) → PlaceAnswer s start lo hi n (Some (z, r))
   placed n y z r g e l a = (g, subst (Lies start lo hi n) (sym e) l, a .2)
 
-  pub not-none : (n : ℕ) (y z : ℤ) → z ≡ y → Lies start lo hi n y → YearAnswer s start lo hi z None → ⊥
-  not-none n y z e l a = let m = subst (Lies start lo hi n) (sym e) l in a (m .from) (m .upto)
+  pub not-none : (n : ℕ) (y z : ℤ) → z ≡ y → lo ≤ℤ y → y <ℤ hi → YearAnswer s start lo hi z None → (a : Option (ℤ × Year)) → a ≡ None → PlaceAnswer s start lo hi n a
+  not-none n y z e from upto h a none =
+      subst (PlaceAnswer s start lo hi n) (sym none) (λ r. h (subst (λ (x : ℤ). lo ≤ℤ x) (sym e) from) (subst (λ (x : ℤ). x <ℤ hi) (sym e) upto))

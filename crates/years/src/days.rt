@@ -96,3 +96,23 @@ fn near_year<R: YearRule>(rule: &R, day: u32) -> i32
 {
     rule.estimate(day).clamp(rule.first_year(), rule.past_year() - 1)
 }
+
+// The year in which the day lies; none for a day out of range.
+fn year_of_day<R: YearRule>(rule: &R, day: u32) -> Option<(i32, Year)>
+    ensures { λ r. ⌜ PlaceAnswer (R·YearRule .shape (now (rule .entry))) (R·YearRule .start (now (rule .entry))) (R·YearRule .first (now (rule .entry))) (R·YearRule .past (now (rule .entry))) day r ⌝ }
+{
+    if day < 1 || day > LAST_DAY {
+        return None;
+    }
+    let guess = near_year(rule, day);
+    let near = rule.year(guess)?;
+    if starts_after(&near, day) {
+        let year = guess - 1;
+        return Some((year, rule.year(year)?));
+    }
+    if ends_by(&near, day) {
+        let year = guess + 1;
+        return Some((year, rule.year(year)?));
+    }
+    Some((guess, near))
+}
