@@ -16,10 +16,10 @@ use Rattle.years.specs.declared.rule.Year.{Year}
 use Rattle.years.specs.Dates.{Shape, Valid, after, number, days-in, MonthDay}
 use Rattle.years.specs.Days.{Fitting, InRange, DateAnswer, DayAnswer, Near}
 use Rattle.years.specs.Rules.{Is-year, YearAnswer}
-use Rattle.years.specs.Lengths.{first-days, Has-day, NumberAnswer}
+use Rattle.years.specs.Lengths.{first-days, Stands, Has-day, NumberAnswer}
 use Rattle.years.specs.Places.{Lies, Beside, PlaceAnswer}
 use Rattle.years.proofs.Numbers.{There, there, found, start-rises}
-use Rattle.years.proofs.Within.{same-days}
+use Rattle.years.proofs.Within.{same-days, stands, none-past}
 
 module _ (s : Shape) (start : ℤ → ℤ) (lo hi : ℤ) (o : Date) (f : Fitting s start lo hi o) where
   none-is : (d : Date) (a : Option ℕ) → a ≡ None → DayAnswer s o d None → DayAnswer s o d a
@@ -151,3 +151,25 @@ module _ (s : Shape) (start : ℤ → ℤ) (lo hi : ℤ) (o : Date) (f : Fitting
   pub not-none : (n : ℕ) (y z : ℤ) → z ≡ y → lo ≤ℤ y → y <ℤ hi → YearAnswer s start lo hi z None → (a : Option (ℤ × Year)) → a ≡ None → PlaceAnswer s start lo hi n a
   not-none n y z e from upto h a none =
       subst (PlaceAnswer s start lo hi n) (sym none) (λ r. h (subst (λ (x : ℤ). lo ≤ℤ x) (sym e) from) (subst (λ (x : ℤ). x <ℤ hi) (sym e) upto))
+
+  module _ (n rest : ℕ) (y : ℤ) (r : Year) (g : InRange n) (l : Lies start lo hi n y) (is : Is-year s start y r) (e : r .start +ℤ pos rest ≡ pos n) where
+    within : rest < days-in s y (s .months y)
+    within =
+        let a = f .adds y (l .from) (l .upto) in
+        let st = is .starts in
+        let h = l .high in
+        omega (arith, ints)
+
+    -- the date of the day, by its month and day in the year
+    pub dated : (m d : ℕ) (z : ℤ) → z ≡ y → Stands r rest m d → DateAnswer s o n (Some (record { year = z; month = m; day = d }))
+    dated m d z ze w =
+        let k = stands s start y r is rest m d within w in
+        let st = is .starts in
+        let i = k .is in
+        let c : Date = record { year = y; month = m; day = d } in
+        let v : Valid s c = record { month-low = k .month-low; month-high = k .month-high; day-low = k .day-low; day-high = k .day-high } in
+        let q = found s start lo hi o f c n g (record { valid = v; low = l .from; high = l .upto; is = omega (arith, ints) }) in
+        subst (λ (x : ℤ). DateAnswer s o n (Some (record { year = x; month = m; day = d }))) (sym ze) (g, q)
+
+    pub not-dateless : first-days r 14 ≤ rest → (a : Option Date) → a ≡ None → DateAnswer s o n a
+    not-dateless past a none = absurd (none-past s start y r is rest (f .few y) within past)

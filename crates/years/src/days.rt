@@ -1,9 +1,9 @@
 // The dates of day numbers, and the day numbers of dates, from the rule of a calendar's years.
 ghost use Prim.Native.Nat.{ℕ, _+_, _-_, _*_, _<_, _≤_};
 ghost use lib.IntN.{pos, _+ℤ_};
-ghost use lib.Signed.{ltZ, leZ};
+ghost use lib.Signed.{ltZ, leZ, _≤ℤ_};
 ghost use mathlib.Core.Path.{_≡_};
-ghost use Rattle.years.specs.Days.{DayAnswer};
+ghost use Rattle.years.specs.Days.{DateAnswer, DayAnswer};
 ghost use Rattle.years.specs.Lengths.{MonthAnswer, IntoAnswer, NumberAnswer, first-days};
 ghost use Rattle.years.specs.Places.{Beside, PlaceAnswer};
 use super::date::Date;
@@ -115,4 +115,22 @@ fn year_of_day<R: YearRule>(rule: &R, day: u32) -> Option<(i32, Year)>
         return Some((year, rule.year(year)?));
     }
     Some((guess, near))
+}
+
+// How many days after the year's start the day comes.
+fn days_since_start(year: &Year, day: u32) -> u32
+    requires { ⌜ now year .start ≤ℤ pos day ⌝ ∗ ⌜ day ≤ 3652059 ⌝ }
+    ensures { λ r. ⌜ now (year .entry) .start +ℤ pos r ≡ pos day ⌝ }
+{
+    (i64::from(day) - i64::from(year.start)) as u32
+}
+
+// The date of a day number; none for a number out of range.
+pub fn date_of_day<R: YearRule>(rule: &R, day: u32) -> Option<Date>
+    ensures { λ r. ⌜ DateAnswer (R·YearRule .shape (now (rule .entry))) (R·YearRule .origin (now (rule .entry))) day r ⌝ }
+{
+    let (number, year) = year_of_day(rule, day)?;
+    let rest = days_since_start(&year, day);
+    let (month, day) = month_and_day(&year, rest)?;
+    Some(Date { year: number, month, day })
 }
