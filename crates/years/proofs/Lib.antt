@@ -1,2 +1,4 @@
+pub mod Daily
 pub mod Numbers
 pub mod Order
+pub mod Within

@@ -1,3 +1,5 @@
 pub mod Dates
 pub mod Days
+pub mod Lengths
+pub mod Places
 pub mod Rules
