@@ -1,0 +1,4 @@
+pub mod Guesses
+pub mod Tables
+pub mod Tishri
+pub mod Told

@@ -1,0 +1,16 @@
+use native.Mathlib.Omega.{arith}
+use mathlib.Core.Path.{_≡_}
+use Prim.Native.Nat.{_+_, _*_, _/_}
+use lib.IntN.{pos}
+use mir.Val.{toZ}
+use mir.Syntax.{w32}
+use Rattle.std.proofs.shelf.Signed.{ints}
+use Rattle.iso8601.proofs.Proleptic.{gregorian-near}
+use Rattle.iso8601.proofs.Iso8601Years.estimate.Needs as need
+
+pub returns : need.returns
+returns c r =
+    let is : toZ w32 (c .guess .result) ≡ pos (c .args .day * 400 / 146097 + 1) =
+    let e = c .guess .ensures .is (r .high) in omega (arith, ints)
+    in
+    gregorian-near (c .args .day) _ r is

@@ -1,0 +1,3 @@
+pub mod Guesses
+pub mod Proleptic
+pub mod Twins
