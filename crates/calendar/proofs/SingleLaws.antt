@@ -5,21 +5,24 @@ use mathlib.Core.List.{List}
 use mathlib.Core.Logic.{inl, inr}
 use Prim.Native.Nat.{ℕ, zero, suc, _+_, _-_, _≤_, _<_}
 use native.Mathlib.Omega.{arith}
-use lib.Dec.{leb}
+use lib.Dec.{leb, ltb}
+use lib.ListN.{getD}
 use lib.IntN.{ℤ, pos, negsuc, natAbs, _+ℤ_, _-ℤ_}
 use lib.Signed.{_<ℤ_, _≤ℤ_, leZ, ltZ}
 use Rattle.std.proofs.shelf.Signed.{ints, by-ltZ}
-use Rattle.std.proofs.shelf.Tests.{and-parts, and-from, leb-true, le-leb, cases-bool}
+use Rattle.std.proofs.shelf.Tests.{and-parts, and-from, leb-true, le-leb, lt-ltb, le-ltb}
 use Rattle.std.specs.Results.{isOk}
 use Rattle.std.specs.declared.option.Option.{Option}
 use Rattle.std.specs.declared.option.Option.the-variants.{Some, None}
 use Rattle.names.specs.Scanning.{read-calendar-name}
 use Rattle.years.specs.declared.date.Date.{Date}
 use Rattle.years.specs.Dates.{Shape, Valid, after, next, number}
+use Rattle.years.specs.declared.rule.Year.{Year}
+use Rattle.years.specs.Rules.{Is-year, YearAnswer, length-in}
 use Rattle.years.specs.Days.{Fitting, Bounded, Twins, InRange, DateAnswer, DayAnswer}
 use Rattle.years.proofs.Numbers.{There, there, there-is, found, start-rises, number-high}
-use Rattle.calendar.specs.Calendars.{Calendar, Calendar-laws, Calendars, Calendars-laws, last-day, next-date}
-use Rattle.calendar.specs.Singles.{valid-date, in-days, day-number, calendar-of, single}
+use Rattle.calendar.specs.Calendars.{Calendar, Calendar-laws, Calendars, Calendars-laws, last-day, next-date, year-there, month-there, asked, day-of}
+use Rattle.calendar.specs.Singles.{valid-date, in-days, day-number, calendar-of, single, single-count}
 
 module _ (s : Shape) (start : ℤ → ℤ) (lo hi : ℤ) (o : Date) (f : Fitting s start lo hi o) (b : Bounded start lo hi o)
     (twin : ℤ → ℕ → ℤ → ℕ) (t : Twins s lo hi twin) where
@@ -132,3 +135,92 @@ module _ (s : Shape) (start : ℤ → ℤ) (lo hi : ℤ) (o : Date) (f : Fitting
       by : (x : Bool) → isOk (read-calendar-name name) ≡ x → Calendars-laws (record { count = cond x 1 0; name = λ _. name; calendar = λ _. c })
       by true h = record { few = omega arith; named = λ k l. h; each = λ k l. calendar-laws }
       by false h = record { few = omega arith; named = λ k l. absurd (omega arith); each = λ k l. absurd (omega arith) }
+
+-- ── questions to one calendar ──
+
+module _ (s : Shape) (start : ℤ → ℤ) (lo hi : ℤ) (o : Date) (twin : ℤ → ℕ → ℤ → ℕ) where
+  abbrev one : Calendar
+  one = calendar-of s start lo hi o twin
+
+  in-years : (y : ℤ) → lo ≤ℤ y → y <ℤ hi → year-there one y ≡ true
+  in-years y low high = and-from (leZ lo y) (leZ y (hi -ℤ pos 1)) (let h = low in grind (arith, ints)) (let k : y ≤ℤ (hi -ℤ pos 1) = omega (arith, ints) in grind (arith, ints))
+
+  pub out-of-years : (y : ℤ) → (lo ≤ℤ y → y <ℤ hi → ⊥) → year-there one y ≡ false
+  out-of-years y out = by (year-there one y) refl
+    where
+      by : (x : Bool) → year-there one y ≡ x → year-there one y ≡ false
+      by false h = h
+      by true h =
+          let p = and-parts (leZ lo y) (leZ y (hi -ℤ pos 1)) h in
+          let low : lo ≤ℤ y = grind (arith, ints) in
+          let high : y ≤ℤ (hi -ℤ pos 1) = grind (arith, ints) in
+          absurd (out low (omega (arith, ints)))
+
+  pub year-answer : (y : ℤ) (r : Option Year) → YearAnswer s start lo hi y r → (x : Year → Option ℕ) (z : Option ℕ)
+      → ((w : Year) → Is-year s start y w → x w ≡ z) → (elim r [ Some w ↦ x w | None ↦ None ]) ≡ cond (year-there one y) z None
+  year-answer y (Some w) a x z f = f w (a .2) ∙ ap (λ b. cond b z None) (sym (in-years y (a .0) (a .1)))
+  year-answer y None a x z f = ap (λ b. cond b z None) (sym (out-of-years y a))
+
+  both : {a b c d : Bool} → a ≡ b → c ≡ d → _≡_ {A = Bool × Bool} (a, c) (b, d)
+  both p q = cc
+
+  -- the length of a month
+  length-is : (y : ℤ) (m : ℕ) (w : Year) → Is-year s start y w → s .months y ≤ 14 → length-in w m ≡ cond (leb 1 m && leb m (s .months y)) (Some (s .size y m)) None
+  length-is y m w i few = by (leb 1 m) refl (leb m (w .months)) refl
+    where
+      same : (b : Bool) → leb m (w .months) ≡ b → leb m (s .months y) ≡ b
+      same b h = ap (leb m) (sym (i .months)) ∙ h
+
+      by : (a : Bool) → leb 1 m ≡ a → (b : Bool) → leb m (w .months) ≡ b → length-in w m ≡ cond (leb 1 m && leb m (s .months y)) (Some (s .size y m)) None
+      by false p b q = ap (λ t. cond (t && (leb m (w .months) && ltb (m - 1) 14)) (Some (getD (w .lengths) (m - 1) 0)) None) p ∙ sym (ap (λ t. cond (t && leb m (s .months y)) (Some (s .size y m)) None) p)
+      by true p false q =
+          ap (λ (t : Bool × Bool). cond (t .0 && (t .1 && ltb (m - 1) 14)) (Some (getD (w .lengths) (m - 1) 0)) None) (both p q)
+          ∙ sym (ap (λ (t : Bool × Bool). cond (t .0 && t .1) (Some (s .size y m)) None) (both p (same false q)))
+      by true p true q =
+          let low : 1 ≤ m = leb-true 1 m p in
+          let high : m ≤ s .months y = leb-true m (s .months y) (same true q) in
+          let l : ltb (m - 1) 14 ≡ true = lt-ltb (m - 1) 14 (omega arith) in
+          ap (λ (t : Bool × Bool). cond (t .0 && (t .1 && ltb (m - 1) 14)) (Some (getD (w .lengths) (m - 1) 0)) None) (both p q)
+          ∙ (ap (λ t. cond t (Some (getD (w .lengths) (m - 1) 0)) None) l
+          ∙ (ap Some (i .lengths m low high) ∙ sym (ap (λ (t : Bool × Bool). cond (t .0 && t .1) (Some (s .size y m)) None) (both p (same true q)))))
+
+  pub length-there : (y : ℤ) (m : ℕ) (w : Year) → lo ≤ℤ y → y <ℤ hi → Is-year s start y w → s .months y ≤ 14 → length-in w m ≡ cond (month-there one y m) (Some (s .size y m)) None
+  length-there y m w low high i few = length-is y m w i few ∙ ap (λ b. cond (b && (leb 1 m && leb m (s .months y))) (Some (s .size y m)) None) (sym (in-years y low high))
+
+  -- ── questions to the source ──
+
+  module _ (name : List ℕ) (k : ℕ) where
+    pub none-one : {X : Type 0} (there : Calendar → Bool) (answer : Calendar → X) → single-count name ≤ k → None ≡ asked (single s start lo hi o twin name) k there answer
+    unfolding single
+    none-one there answer out = sym (ap (λ b. cond (b && there one) (Some (answer one)) None) (le-ltb k (single-count name) out))
+
+    pub some-one : {X : Type 0} (there : Calendar → Bool) (answer : Calendar → X) → k < single-count name → cond (there one) (Some (answer one)) None ≡ asked (single s start lo hi o twin name) k there answer
+    unfolding single
+    some-one there answer in-table = sym (ap (λ b. cond (b && there one) (Some (answer one)) None) (lt-ltb k (single-count name) in-table))
+
+    pub none-day : (d : Date) → single-count name ≤ k → None ≡ day-of (single s start lo hi o twin name) k d
+    unfolding single
+    none-day d out = sym (ap (λ b. cond b (one .number d) None) (le-ltb k (single-count name) out))
+
+    pub some-day : (d : Date) → k < single-count name → day-number s start lo hi o twin d ≡ day-of (single s start lo hi o twin name) k d
+    unfolding single
+    some-day d in-table = sym (ap (λ b. cond b (one .number d) None) (lt-ltb k (single-count name) in-table))
+
+    pub count-is : single s start lo hi o twin name .count ≡ single-count name
+    unfolding single
+    count-is = refl
+
+    pub name-is : single s start lo hi o twin name .name k ≡ name
+    unfolding single
+    name-is = refl
+
+-- the answer of a rule's years to the question for a date's day
+module _ (s : Shape) (start : ℤ → ℤ) (lo hi : ℤ) (o : Date) (f : Fitting s start lo hi o) (b : Bounded start lo hi o)
+    (twin : ℤ → ℕ → ℤ → ℕ) (t : Twins s lo hi twin) where
+  pub day-is : (d : Date) (r : Option ℕ) → DayAnswer s o d r → r ≡ day-number s start lo hi o twin d
+  day-is d (Some n) a = sym (numbered s start lo hi o f b twin t d n (a .0) (there s start lo hi o f d n (a .0) (a .1)))
+  day-is d None a = by (day-number s start lo hi o twin d) refl
+    where
+      by : (r : Option ℕ) → day-number s start lo hi o twin d ≡ r → None ≡ day-number s start lo hi o twin d
+      by None e = sym e
+      by (Some n) e = let p = dated s start lo hi o f b twin t d n e in absurd (a n (p .0) (found s start lo hi o f d n (p .0) (p .1)))

@@ -77,6 +77,22 @@ year-there c y = within (c .first) (c .last) y
 abbrev pub month-there : Calendar → ℤ → ℕ → Bool
 month-there c y m = year-there c y && (leb 1 m && leb m (c .months y))
 
+-- ── of one calendar ──
+
+abbrev pub months-in : Calendar → ℤ → Option ℕ
+months-in c y = cond (year-there c y) (Some (c .months y)) None
+
+abbrev pub length-in : Calendar → ℤ → ℕ → Option ℕ
+length-in c y m = cond (month-there c y m) (Some (c .size y m)) None
+
+abbrev pub date-in : Calendar → ℕ → Option Date
+date-in c n = cond (leb 1 n && leb n last-day) (Some (c .date n)) None
+
+abbrev pub twin-in : Calendar → ℤ → ℕ → ℤ → Option ℕ
+twin-in c y m z = cond (month-there c y m && year-there c z) (Some (c .twin y m z)) None
+
+-- ── of a table of calendars ──
+
 -- what is asked of a calendar, where the calendar and what is asked for are there
 abbrev pub asked : {X : Type 0} → Calendars → ℕ → (Calendar → Bool) → (Calendar → X) → Option X
 asked s k there answer = cond (ltb k (s .count) && there (s .calendar k)) (Some (answer (s .calendar k))) None

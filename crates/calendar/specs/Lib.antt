@@ -1,3 +1,4 @@
 pub mod Calendars
 pub mod Joining
+pub mod Namings
 pub mod Singles

@@ -13,6 +13,9 @@ use Rattle.years.specs.declared.date.Date.{Date}
 use Rattle.years.specs.Dates.{Shape, after, number}
 use Rattle.calendar.specs.Calendars.{Calendar, Calendars, last-day}
 
+abbrev pub single-count : List ℕ → ℕ
+single-count name = cond (isOk (read-calendar-name name)) 1 0
+
 module _ (s : Shape) (start : ℤ → ℤ) (lo hi : ℤ) (origin : Date) (twin : ℤ → ℕ → ℤ → ℕ) where
   -- a date of the calendar's years and months
   abbrev pub valid-date : Date → Bool
@@ -41,4 +44,4 @@ module _ (s : Shape) (start : ℤ → ℤ) (lo hi : ℤ) (origin : Date) (twin :
 
   -- one calendar, or none where its name is out of form
   unfoldable pub single : List ℕ → Calendars
-  single name = record { count = cond (isOk (read-calendar-name name)) 1 0; name = λ _. name; calendar = λ _. calendar-of }
+  single name = record { count = single-count name; name = λ _. name; calendar = λ _. calendar-of }

@@ -13,7 +13,9 @@ use years::rule::YearRule;
 pub struct Hebrew;
 
 const FIRST_YEAR: i32 = 3761;
+
 const PAST_YEAR: i32 = 13_761;
+
 const LAST_DAY: u32 = 3_652_059;
 // days from the calendar's epoch up to day 0
 const EPOCH: i32 = 1_373_427;
@@ -33,7 +35,11 @@ fn new_year(year: u32) -> u32
 {
     let months = (235 * year - 234) / 19;
     let molad = 29 * months + (12_084 + 13_753 * months) / 25_920;
-    if 3 * (molad + 1) % 7 < 3 { molad + 1 } else { molad }
+    if 3 * (molad + 1) % 7 < 3 {
+        molad + 1
+    } else {
+        molad
+    }
 }
 
 // The first day of a year, from the days found for the year before, for itself and for the next: no year has 356 days,
@@ -86,19 +92,53 @@ fn third_month(days: u16) -> u8
 fn leap_lengths(days: u16) -> [u8; MONTHS_MOST]
     ensures { λ r. ⌜ r ≡ leap-lengths days ⌝ }
 {
-    [30, second_month(days), third_month(days), 29, 30, 30, 29, 30, 29, 30, 29, 30, 29, 0]
+    [
+        30,
+        second_month(days),
+        third_month(days),
+        29,
+        30,
+        30,
+        29,
+        30,
+        29,
+        30,
+        29,
+        30,
+        29,
+        0,
+    ]
 }
 
 fn common_lengths(days: u16) -> [u8; MONTHS_MOST]
     ensures { λ r. ⌜ r ≡ common-lengths days ⌝ }
 {
-    [30, second_month(days), third_month(days), 29, 30, 29, 30, 29, 30, 29, 30, 29, 0, 0]
+    [
+        30,
+        second_month(days),
+        third_month(days),
+        29,
+        30,
+        29,
+        30,
+        29,
+        30,
+        29,
+        30,
+        29,
+        0,
+        0,
+    ]
 }
 
 fn lengths_of(leap_year: bool, days: u16) -> [u8; MONTHS_MOST]
     ensures { λ r. ⌜ r ≡ lengths «leap_year» days ⌝ }
 {
-    if leap_year { leap_lengths(days) } else { common_lengths(days) }
+    if leap_year {
+        leap_lengths(days)
+    } else {
+        common_lengths(days)
+    }
 }
 
 fn months_of(leap_year: bool) -> u8

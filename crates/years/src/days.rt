@@ -94,7 +94,8 @@ fn ends_by(year: &Year, day: u32) -> bool
 fn near_year<R: YearRule>(rule: &R, day: u32) -> i32
     ensures { λ r. ⌜ Beside (R·YearRule .start (now (rule .entry))) (R·YearRule .first (now (rule .entry))) (R·YearRule .past (now (rule .entry))) day r ⌝ }
 {
-    rule.estimate(day).clamp(rule.first_year(), rule.past_year() - 1)
+    rule.estimate(day)
+        .clamp(rule.first_year(), rule.past_year() - 1)
 }
 
 // The year in which the day lies; none for a day out of range.
@@ -132,5 +133,9 @@ pub fn date_of_day<R: YearRule>(rule: &R, day: u32) -> Option<Date>
     let (number, year) = year_of_day(rule, day)?;
     let rest = days_since_start(&year, day);
     let (month, day) = month_and_day(&year, rest)?;
-    Some(Date { year: number, month, day })
+    Some(Date {
+        year: number,
+        month,
+        day,
+    })
 }

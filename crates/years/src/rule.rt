@@ -4,7 +4,7 @@ ghost use Prim.Native.Nat.{ℕ};
 ghost use mathlib.Core.Path.{_≡_};
 ghost use Rattle.years.specs.Dates.{Shape};
 ghost use Rattle.years.specs.Days.{Fitting, Bounded, InRange, Near, Twins};
-ghost use Rattle.years.specs.Rules.{YearAnswer};
+ghost use Rattle.years.specs.Rules.{YearAnswer, length-in};
 ghost use Rattle.years.specs.declared.date.Date.{Date as AnyDate};
 
 // The most months of a year.
@@ -62,4 +62,16 @@ pub trait YearRule {
     // The twin of a month in another year.
     fn twin_month(&self, year: i32, month: u8, other: i32) -> u8
         ensures { λ r. ⌜ r ≡ twin (now (self .entry)) year month other ⌝ };
+}
+
+impl Year {
+    // The length of a month; none where the year has no such month.
+    pub fn length_of(&self, month: u8) -> Option<u8>
+        ensures { λ r. ⌜ r ≡ length-in (now (self .entry)) month ⌝ }
+    {
+        if month < 1 || month > self.months {
+            return None;
+        }
+        self.lengths.get(month as usize - 1).copied()
+    }
 }

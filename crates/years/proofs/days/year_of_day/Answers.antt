@@ -38,7 +38,7 @@ returns-then-starts-after g c =
     let f = g .R·YearRule·met .fitting (c .args .rule .now) in
     let k = c .near-year-guess .ensures in
     let z : toZ w32 (ofZ w32 (toZ w32 (ofZ w32 (c .near-year-guess .result)) -ℤ pos 1)) ≡ c .near-year-guess .result -ℤ pos 1 =
-        let near = f .near in let far = f .far in omega (arith, ints) in
+    let near = f .near in let far = f .far in omega (arith, ints) in
     let r : InRange (c .args .day) = record { low = omega arith; high = omega arith } in
     let l = turn-before _ _ _ _ _ f (c .args .day) (c .near-year-guess .result) _ (c .in-Continue-near .near) k r (toZ-ofZ w32 _ fy) (c .in-Continue-near .ensures tt) _ (c .starts-after .ensures) (c .if-starts-after .taken) in
     placed _ _ _ _ _ f (c .args .day) _ _ (c .in-Continue-year .field-0) r z l (c .in-Continue-year .ensures tt)
@@ -49,7 +49,7 @@ returns-in-Break-year g c =
     let f = g .R·YearRule·met .fitting (c .args .rule .now) in
     let k = c .near-year-guess .ensures in
     let z : toZ w32 (ofZ w32 (toZ w32 (ofZ w32 (c .near-year-guess .result)) -ℤ pos 1)) ≡ c .near-year-guess .result -ℤ pos 1 =
-        let near = f .near in let far = f .far in omega (arith, ints) in
+    let near = f .near in let far = f .far in omega (arith, ints) in
     let r : InRange (c .args .day) = record { low = omega arith; high = omega arith } in
     let l = turn-before _ _ _ _ _ f (c .args .day) (c .near-year-guess .result) _ (c .in-Continue-near .near) k r (toZ-ofZ w32 _ fy) (c .in-Continue-near .ensures tt) _ (c .starts-after .ensures) (c .if-starts-after .taken) in
     not-none _ _ _ _ _ f (c .args .day) _ _ z (l .from) (l .upto) (c .in-Break-year .ensures tt) _ (c .from-residual-in-Break-year .ensures)
@@ -61,7 +61,7 @@ returns-then-ends-by g c =
     let f = g .R·YearRule·met .fitting (c .args .rule .now) in
     let k = c .near-year-guess .ensures in
     let z : toZ w32 (ofZ w32 (toZ w32 (ofZ w32 (c .near-year-guess .result)) +ℤ pos 1)) ≡ c .near-year-guess .result +ℤ pos 1 =
-        let near = f .near in let far = f .far in omega (arith, ints) in
+    let near = f .near in let far = f .far in omega (arith, ints) in
     let r : InRange (c .args .day) = record { low = omega arith; high = omega arith } in
     let l = turn-after _ _ _ _ _ f (c .args .day) (c .near-year-guess .result) _ (c .in-Continue-near .near) k r (toZ-ofZ w32 _ fy) (c .in-Continue-near .ensures tt) _ (c .ends-by .ensures) (c .if-ends-by .taken) in
     placed _ _ _ _ _ f (c .args .day) _ _ (c .in-Continue-year-2 .field-0) r z l (c .in-Continue-year-2 .ensures tt)
@@ -72,7 +72,7 @@ returns-in-Break-year-2 g c =
     let f = g .R·YearRule·met .fitting (c .args .rule .now) in
     let k = c .near-year-guess .ensures in
     let z : toZ w32 (ofZ w32 (toZ w32 (ofZ w32 (c .near-year-guess .result)) +ℤ pos 1)) ≡ c .near-year-guess .result +ℤ pos 1 =
-        let near = f .near in let far = f .far in omega (arith, ints) in
+    let near = f .near in let far = f .far in omega (arith, ints) in
     let r : InRange (c .args .day) = record { low = omega arith; high = omega arith } in
     let l = turn-after _ _ _ _ _ f (c .args .day) (c .near-year-guess .result) _ (c .in-Continue-near .near) k r (toZ-ofZ w32 _ fy) (c .in-Continue-near .ensures tt) _ (c .ends-by .ensures) (c .if-ends-by .taken) in
     not-none _ _ _ _ _ f (c .args .day) _ _ z (l .from) (l .upto) (c .in-Break-year-2 .ensures tt) _ (c .from-residual-in-Break-year-2 .ensures)
