@@ -5,6 +5,7 @@ ghost use lib.Signed.{ltZ, leZ, _≤ℤ_};
 ghost use mathlib.Core.Path.{_≡_};
 ghost use Rattle.years.specs.Days.{DateAnswer, DayAnswer};
 ghost use Rattle.years.specs.Lengths.{MonthAnswer, IntoAnswer, NumberAnswer, first-days};
+ghost use Rattle.years.specs.Orders.{OrderAnswer};
 ghost use Rattle.years.specs.Places.{Beside, PlaceAnswer};
 use super::date::Date;
 use super::rule::Year;
@@ -133,4 +134,13 @@ pub fn date_of_day<R: YearRule>(rule: &R, day: u32) -> Option<Date>
     let rest = days_since_start(&year, day);
     let (month, day) = month_and_day(&year, rest)?;
     Some(Date { year: number, month, day })
+}
+
+// Whether one date comes before another, by year, then month, then day; none where one is no day's.
+pub fn comes_before<R: YearRule>(rule: &R, date: Date, other: Date) -> Option<bool>
+    ensures { λ r. ⌜ OrderAnswer (R·YearRule .shape (now (rule .entry))) (R·YearRule .origin (now (rule .entry))) date other r ⌝ }
+{
+    let first = day_of_date(rule, date)?;
+    let second = day_of_date(rule, other)?;
+    Some(first < second)
 }
