@@ -113,7 +113,7 @@ module _ (s : Shape) (start : ℤ → ℤ) (lo hi : ℤ) (o : Date) (f : Fitting
   lies-after n guess k from upto h =
       let low = k .low in
       let p : guess <ℤ k .year = by-ltZ guess (k .year) (λ l. l)
-          (λ l. let r = start-rises s start lo hi (f .adds) (k .year +ℤ pos 1) (guess +ℤ pos 1) (omega (arith, ints)) (omega (arith, ints)) (omega (arith, ints)) in let a = k .ends in absurd (omega (arith, ints))) in
+      (λ l. let r = start-rises s start lo hi (f .adds) (k .year +ℤ pos 1) (guess +ℤ pos 1) (omega (arith, ints)) (omega (arith, ints)) (omega (arith, ints)) in let a = k .ends in absurd (omega (arith, ints))) in
       let d = k .not-before in
       lies-at n guess (guess +ℤ pos 1) k (omega (arith, ints))
 

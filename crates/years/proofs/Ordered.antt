@@ -16,10 +16,14 @@ use Rattle.years.proofs.Order.{rises, later}
 
 module _ (s : Shape) (o a b : Date) where
   pub told : (n m : ℕ) → DayAnswer s o a (Some n) → DayAnswer s o b (Some m) → OrderAnswer s o a b (Some (ltb n m))
-  told n m (p, e) (q, f) =
-      (record { day = n; in-range = p; is = e }, record { day = m; in-range = q; is = f },
-       (λ t. let l = ltb-true n m t in rw (e, f) (rises s o (n - 1) (m - 1) (let h = p .low in omega arith)),
-        λ h. lt-ltb n m (let l = later s o (n - 1) (m - 1) (subst (λ (x : Date). Before x (after s o (m - 1))) e (subst (λ (x : Date). Before a x) f h)) in omega arith)))
+  told n m (p, e) (q, f) = (
+    record { day = n; in-range = p; is = e },
+    record { day = m; in-range = q; is = f },
+    (
+      λ t. let l = ltb-true n m t in rw (e, f) (rises s o (n - 1) (m - 1) (let h = p .low in omega arith)),
+      λ h. lt-ltb n m (let l = later s o (n - 1) (m - 1) (subst (λ (x : Date). Before x (after s o (m - 1))) e (subst (λ (x : Date). Before a x) f h)) in omega arith),
+    ),
+  )
 
   pub none-first : DayAnswer s o a None → (r : Option Bool) → r ≡ None → OrderAnswer s o a b r
   none-first h r e = subst (OrderAnswer s o a b) (sym e) (λ p q. h (p .day) (p .in-range) (p .is))

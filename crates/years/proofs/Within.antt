@@ -29,7 +29,7 @@ module _ (s : Shape) (start : ℤ → ℤ) (y : ℤ) (r : Year) (is : Is-year s 
       let low = w .month-low in
       let all = same-days (s .months y) (omega arith) in
       let inside : m ≤ s .months y = ⊎-elim (λ (l : m - 1 < s .months y). let k : m ≤ s .months y = omega arith in k)
-          (λ (l : s .months y ≤ m - 1). let g = days-rise (alone r) (pos 0) (s .months y) (m - 1) l in let i = w .is in absurd (omega arith)) (cases-lt (m - 1) (s .months y)) in
+      (λ (l : s .months y ≤ m - 1). let g = days-rise (alone r) (pos 0) (s .months y) (m - 1) l in let i = w .is in absurd (omega arith)) (cases-lt (m - 1) (s .months y)) in
       let here = is .lengths m low inside in
       let before = same-days (m - 1) (omega arith) in
       let i = w .is in

@@ -3,7 +3,8 @@ ghost use Prim.Native.Nat.{ℕ, _+_, _-_, _*_, _<_, _≤_};
 ghost use lib.IntN.{pos, _+ℤ_};
 ghost use lib.Signed.{ltZ, leZ, _≤ℤ_};
 ghost use mathlib.Core.Path.{_≡_};
-ghost use Rattle.years.specs.Days.{DateAnswer, DayAnswer};
+ghost use Rattle.std.specs.Orderings.{Decides};
+ghost use Rattle.years.specs.Days.{DateAnswer, DayAnswer, InRange};
 ghost use Rattle.years.specs.Lengths.{MonthAnswer, IntoAnswer, NumberAnswer, first-days};
 ghost use Rattle.years.specs.Orders.{OrderAnswer};
 ghost use Rattle.years.specs.Places.{Beside, LabelAnswer, PlaceAnswer};
@@ -21,7 +22,11 @@ pub fn date_of_day<R: YearRule>(rule: &R, day: u32) -> Option<Date>
     let (number, year) = year_of_day(rule, day)?;
     let rest = days_since_start(&year, day);
     let (month, day) = month_and_day(&year, rest)?;
-    Some(Date { year: number, month, day })
+    Some(Date {
+        year: number,
+        month,
+        day,
+    })
 }
 
 // The day number of a date; none for a date that is no day's.
@@ -46,7 +51,7 @@ pub fn comes_before<R: YearRule>(rule: &R, date: Date, other: Date) -> Option<bo
 fn year_of_day<R: YearRule>(rule: &R, day: u32) -> Option<(i32, Year)>
     ensures { λ r. ⌜ PlaceAnswer (R·YearRule .shape (now (rule .entry))) (R·YearRule .start (now (rule .entry))) (R·YearRule .first (now (rule .entry))) (R·YearRule .past (now (rule .entry))) day r ⌝ }
 {
-    if day < 1 || day > LAST_DAY {
+    if !in_range(day) {
         return None;
     }
     let guess = near_year(rule, day);
@@ -60,11 +65,19 @@ fn year_of_day<R: YearRule>(rule: &R, day: u32) -> Option<(i32, Year)>
     Some((guess, near))
 }
 
+// Whether the number is a day's.
+fn in_range(day: u32) -> bool
+    ensures { λ r. ⌜ Decides r (InRange day) ⌝ }
+{
+    day >= 1 && day <= LAST_DAY
+}
+
 // A year of the calendar that is the day's, or one beside it.
 fn near_year<R: YearRule>(rule: &R, day: u32) -> i32
     ensures { λ r. ⌜ Beside (R·YearRule .start (now (rule .entry))) (R·YearRule .first (now (rule .entry))) (R·YearRule .past (now (rule .entry))) day r ⌝ }
 {
-    rule.estimate(day).clamp(rule.first_year(), rule.past_year() - 1)
+    rule.estimate(day)
+        .clamp(rule.first_year(), rule.past_year() - 1)
 }
 
 // A year of the calendar, with its number.

@@ -25,9 +25,9 @@ returns g c =
     let fr : SFits w32 (c .clamp .result) = search needs in
     let f = g .R·YearRule·met .fitting (c .args .rule .now) in
     let most : toZ w32 (ofZ w32 (toZ w32 (ofZ w32 (c .past-year .result)) -ℤ pos 1)) ≡ g .R·YearRule .past (c .args .rule .now) -ℤ pos 1 =
-        let b = c .past-year .ensures in
-        let near = f .near in
-        let some = f .some in
-        omega (arith, ints) in
+    let b = c .past-year .ensures in
+    let near = f .near in
+    let some = f .some in
+    omega (arith, ints) in
     beside _ _ _ _ _ f (c .args .day) (c .estimate .result) _ _ _ _ (c .estimate .ensures) (toZ-ofZ w32 _ fe) (toZ-ofZ w32 _ fl ∙ c .first-year .ensures) most
     (toZ-ofZ w32 _ fr ∙ c .clamp .ensures .value)
