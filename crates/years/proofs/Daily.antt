@@ -1,9 +1,8 @@
 -- Dates of days and days of dates, from the year in which they lie.
-use mathlib.Core.Path.{_≡_, _∙_, subst, sym, refl, ap}
-use mathlib.Core.Logic.{_⊎_, inl, inr, ⊎-elim}
-use Prim.Native.Nat.{ℕ, zero, suc, _+_, _-_, _≤_, _<_}
+use mathlib.Core.Path.{_≡_, _∙_, subst, sym}
+use Prim.Native.Nat.{ℕ, _+_, _-_, _≤_, _<_}
 use native.Mathlib.Omega.{arith}
-use lib.IntN.{ℤ, pos, negℤ, _+ℤ_, _-ℤ_, natAbs}
+use lib.IntN.{ℤ, pos, _+ℤ_, _-ℤ_}
 use lib.Dec.{T}
 use lib.Signed.{_<ℤ_, _≤ℤ_, ltZ, leZ, ltZ-yes, ltZ-no, leZ-yes}
 use mathlib.Core.Bool.{Bool, true, false, not}
@@ -13,12 +12,12 @@ use Rattle.std.specs.Numbers.{maxZ, minZ}
 use Rattle.std.proofs.shelf.Signed.{ints, clamps, by-ltZ}
 use Rattle.years.specs.declared.date.Date.{Date}
 use Rattle.years.specs.declared.rule.Year.{Year}
-use Rattle.years.specs.Dates.{Shape, Valid, after, number, days-in, MonthDay}
+use Rattle.years.specs.Dates.{Shape, Valid, number, days-in}
 use Rattle.years.specs.Days.{Fitting, InRange, DateAnswer, DayAnswer, Near}
 use Rattle.years.specs.Rules.{Is-year, YearAnswer}
 use Rattle.years.specs.Lengths.{first-days, Stands, Has-day, NumberAnswer}
 use Rattle.years.specs.Places.{Lies, Beside, LabelAnswer, PlaceAnswer}
-use Rattle.years.proofs.Numbers.{There, there, found, start-rises}
+use Rattle.years.proofs.Numbers.{there, found, start-rises}
 use Rattle.years.proofs.Within.{same-days, stands, none-past}
 
 module _ (s : Shape) (start : ℤ → ℤ) (lo hi : ℤ) (o : Date) (f : Fitting s start lo hi o) where

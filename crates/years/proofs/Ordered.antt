@@ -6,12 +6,11 @@ use native.Mathlib.Omega.{arith}
 use lib.Dec.{ltb}
 use Rattle.std.specs.declared.option.Option.{Option}
 use Rattle.std.specs.declared.option.Option.the-variants.{None, Some}
-use Rattle.std.specs.Orderings.{Decides}
 use Rattle.std.proofs.shelf.Tests.{ltb-true, lt-ltb}
 use Rattle.years.specs.declared.date.Date.{Date}
 use Rattle.years.specs.Dates.{Shape, after, Before}
-use Rattle.years.specs.Days.{InRange, DayAnswer}
-use Rattle.years.specs.Orders.{Days-date, OrderAnswer}
+use Rattle.years.specs.Days.{DayAnswer}
+use Rattle.years.specs.Orders.{OrderAnswer}
 use Rattle.years.proofs.Order.{rises, later}
 
 module _ (s : Shape) (o a b : Date) where

@@ -1,5 +1,5 @@
 // The dates of day numbers, and the day numbers of dates, from the rule of a calendar's years.
-ghost use Prim.Native.Nat.{ℕ, _+_, _-_, _*_, _<_, _≤_};
+ghost use Prim.Native.Nat.{_*_, _≤_};
 ghost use lib.IntN.{pos, _+ℤ_};
 ghost use lib.Signed.{ltZ, leZ, _≤ℤ_};
 ghost use mathlib.Core.Path.{_≡_};
