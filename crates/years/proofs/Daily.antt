@@ -1,9 +1,8 @@
 -- Dates of days and days of dates, from the year in which they lie.
-use mathlib.Core.Path.{_≡_, _∙_, subst, sym, refl, ap}
-use mathlib.Core.Logic.{_⊎_, inl, inr, ⊎-elim}
-use Prim.Native.Nat.{ℕ, zero, suc, _+_, _-_, _≤_, _<_}
+use mathlib.Core.Path.{_≡_, _∙_, subst, sym}
+use Prim.Native.Nat.{ℕ, _+_, _-_, _≤_, _<_}
 use native.Mathlib.Omega.{arith}
-use lib.IntN.{ℤ, pos, negℤ, _+ℤ_, _-ℤ_, natAbs}
+use lib.IntN.{ℤ, pos, _+ℤ_, _-ℤ_}
 use lib.Dec.{T}
 use lib.Signed.{_<ℤ_, _≤ℤ_, ltZ, leZ, ltZ-yes, ltZ-no, leZ-yes}
 use mathlib.Core.Bool.{Bool, true, false, not}
@@ -13,12 +12,12 @@ use Rattle.std.specs.Numbers.{maxZ, minZ}
 use Rattle.std.proofs.shelf.Signed.{ints, clamps, by-ltZ}
 use Rattle.years.specs.declared.date.Date.{Date}
 use Rattle.years.specs.declared.rule.Year.{Year}
-use Rattle.years.specs.Dates.{Shape, Valid, after, number, days-in, MonthDay}
+use Rattle.years.specs.Dates.{Shape, Valid, number, days-in}
 use Rattle.years.specs.Days.{Fitting, InRange, DateAnswer, DayAnswer, Near}
 use Rattle.years.specs.Rules.{Is-year, YearAnswer}
 use Rattle.years.specs.Lengths.{first-days, Stands, Has-day, NumberAnswer}
-use Rattle.years.specs.Places.{Lies, Beside, PlaceAnswer}
-use Rattle.years.proofs.Numbers.{There, there, found, start-rises}
+use Rattle.years.specs.Places.{Lies, Beside, LabelAnswer, PlaceAnswer}
+use Rattle.years.proofs.Numbers.{there, found, start-rises}
 use Rattle.years.proofs.Within.{same-days, stands, none-past}
 
 module _ (s : Shape) (start : ℤ → ℤ) (lo hi : ℤ) (o : Date) (f : Fitting s start lo hi o) where
@@ -135,22 +134,24 @@ module _ (s : Shape) (start : ℤ → ℤ) (lo hi : ℤ) (o : Date) (f : Fitting
         let a = f .adds guess (k .from) (k .upto) in
         lies-after n guess (k .near g) (k .from) (k .upto) (omega (arith, ints))
 
-    pub stay : (b c : Bool) → b ≡ ltZ (pos n) (r .start) → b ≡ false → c ≡ leZ (r .start +ℤ pos (r .days)) (pos n) → c ≡ false → Lies start lo hi n guess
+    pub stay : (b c : Bool) → b ≡ ltZ (pos n) (r .start) → b ≡ false → c ≡ leZ (r .start +ℤ pos (r .days)) (pos n) → c ≡ false → Lies start lo hi n z
     stay b c t u v w =
         let low : r .start ≤ℤ pos n = lt-no (pos n) (r .start) b t u in
         let high : pos n <ℤ (r .start +ℤ pos (r .days)) = le-no (r .start +ℤ pos (r .days)) (pos n) c v w in
         let st = is .starts in
         let all = is .days in
         let a = f .adds guess (k .from) (k .upto) in
-        record { from = k .from; upto = k .upto; low = omega (arith, ints); high = omega (arith, ints) }
+        subst (Lies start lo hi n) (sym e) (record { from = k .from; upto = k .upto; low = omega (arith, ints); high = omega (arith, ints) })
 
   -- the year that the rule answers for the year of a day
-  pub placed : (n : ℕ) (y z : ℤ) (r : Year) → InRange n → z ≡ y → Lies start lo hi n y → YearAnswer s start lo hi z (Some r) → PlaceAnswer s start lo hi n (Some (z, r))
-  placed n y z r g e l a = (g, subst (Lies start lo hi n) (sym e) l, a .2)
+  pub placed : (n : ℕ) (y z : ℤ) → InRange n → z ≡ y → Lies start lo hi n y → (a : Option (ℤ × Year)) → LabelAnswer s start lo hi z a → PlaceAnswer s start lo hi n a
+  placed n y z g e l (Some (x, r)) (p, a) = (g, subst (Lies start lo hi n) (sym (p ∙ e)) l, subst (λ (v : ℤ). Is-year s start v r) (sym p) (a .2))
+  placed n y z g e l None a = let m = subst (Lies start lo hi n) (sym e) l in λ h. a (m .from) (m .upto)
 
-  pub not-none : (n : ℕ) (y z : ℤ) → z ≡ y → lo ≤ℤ y → y <ℤ hi → YearAnswer s start lo hi z None → (a : Option (ℤ × Year)) → a ≡ None → PlaceAnswer s start lo hi n a
-  not-none n y z e from upto h a none =
-      subst (PlaceAnswer s start lo hi n) (sym none) (λ r. h (subst (λ (x : ℤ). lo ≤ℤ x) (sym e) from) (subst (λ (x : ℤ). x <ℤ hi) (sym e) upto))
+  -- the rule has every year that may be a day's
+  pub some-near : (n : ℕ) (y z : ℤ) → z ≡ y → Beside start lo hi n y → YearAnswer s start lo hi z None → (a : Option (ℤ × Year)) → a ≡ None → PlaceAnswer s start lo hi n a
+  some-near n y z e k h a none =
+      subst (PlaceAnswer s start lo hi n) (sym none) (λ r. h (subst (λ (x : ℤ). lo ≤ℤ x) (sym e) (k .from)) (subst (λ (x : ℤ). x <ℤ hi) (sym e) (k .upto)))
 
   module _ (n rest : ℕ) (y : ℤ) (r : Year) (g : InRange n) (l : Lies start lo hi n y) (is : Is-year s start y r) (e : r .start +ℤ pos rest ≡ pos n) where
     within : rest < days-in s y (s .months y)

@@ -1,9 +1,9 @@
 -- Within one year: its lengths tell the months and days that the calendar means.
-use mathlib.Core.Path.{_≡_, _∙_, subst, sym, refl, ap}
-use mathlib.Core.Logic.{_⊎_, inl, inr, ⊎-elim}
+use mathlib.Core.Path.{_≡_, refl}
+use mathlib.Core.Logic.{⊎-elim}
 use Prim.Native.Nat.{ℕ, zero, suc, _+_, _-_, _≤_, _<_}
 use native.Mathlib.Omega.{arith}
-use lib.IntN.{ℤ, pos, _+ℤ_}
+use lib.IntN.{ℤ, pos}
 use lib.ListN.{getD}
 use Rattle.std.proofs.shelf.Tests.{cases-lt}
 use Rattle.years.specs.declared.rule.Year.{Year}

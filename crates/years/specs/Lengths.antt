@@ -1,16 +1,13 @@
 -- What the lengths of a year's months alone say: its days and months, whatever the calendar.
 use mathlib.Core.Path.{_≡_}
-use Prim.Native.Nat.{ℕ, _+_, _-_, _≤_, _<_}
-use lib.IntN.{ℤ, pos, _+ℤ_}
+use Prim.Native.Nat.{ℕ, _+_, _-_, _≤_}
+use lib.IntN.{ℤ, pos}
 use lib.ListN.{getD}
-use lib.Signed.{_<ℤ_, _≤ℤ_}
 use Rattle.std.specs.declared.option.Option.{Option}
 use Rattle.std.specs.declared.option.Option.the-variants.{None, Some}
-use Rattle.years.specs.declared.date.Date.{Date}
 use Rattle.years.specs.declared.rule.Year.{Year}
 use Rattle.years.specs.Dates.{Shape, days-in}
 use Rattle.years.specs.Days.{InRange}
-use Rattle.years.specs.Rules.{Is-year}
 
 -- the calendar whose every year is this one
 abbrev pub alone : Year → Shape

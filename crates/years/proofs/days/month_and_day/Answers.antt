@@ -1,7 +1,6 @@
-use mathlib.Core.Path.{_≡_, ap}
+use mathlib.Core.Path.{_≡_}
 use Prim.Native.Nat.{_+_, _-_}
 use native.Mathlib.Omega.{arith}
-use Rattle.years.specs.Lengths.{first-days}
 use Rattle.years.proofs.Within.{one-more}
 use Rattle.years.proofs.days.month_and_day.Needs as need
 

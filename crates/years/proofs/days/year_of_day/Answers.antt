@@ -1,30 +1,28 @@
 use borrow.Author.Needs.{needs}
 use native.Mathlib.Omega.{arith}
-use mathlib.Core.Path.{_≡_, _∙_}
+use mathlib.Core.Path.{_≡_}
 use lib.IntN.{pos, _-ℤ_, _+ℤ_}
 use mir.Syntax.{w32}
 use mir.Val.{SFits, toZ, ofZ}
 use Rattle.std.proofs.shelf.Signed.{ints, toZ-ofZ}
-use Rattle.years.specs.Days.{InRange}
-use Rattle.years.proofs.Daily.{turn-before, turn-after, stay, placed, not-none}
+use Rattle.years.proofs.Daily.{turn-before, turn-after, stay, placed, some-near}
 use Rattle.years.proofs.days.year_of_day.Needs as need
 
 pub returns-in-Break-near : need.returns-in-Break-near
 returns-in-Break-near g c =
     let fy : SFits w32 (c .near-year-guess .result) = search needs in
-    let k = c .near-year-guess .ensures in
-    not-none _ _ _ _ _ (g .R·YearRule·met .fitting (c .args .rule .now)) (c .args .day) (c .near-year-guess .result) _ (toZ-ofZ w32 _ fy) (k .from) (k .upto) (c .in-Break-near .ensures tt) _ (c .from-residual .ensures)
+    some-near _ _ _ _ _ (g .R·YearRule·met .fitting (c .args .rule .now)) (c .args .day) (c .near-year-guess .result) _ (toZ-ofZ w32 _ fy) (c .near-year-guess .ensures) (c .in-Break-near .ensures tt) _ (c .from-residual .ensures)
 
-pub sub-year : need.sub-year
-sub-year g c =
+pub sub-guess : need.sub-guess
+sub-guess g c =
     let f = g .R·YearRule·met .fitting (c .args .rule .now) in
     let near = f .near in
     let far = f .far in
     let k = c .near-year-guess .ensures in
     omega (arith, ints)
 
-pub add-year : need.add-year
-add-year g c =
+pub add-guess : need.add-guess
+add-guess g c =
     let f = g .R·YearRule·met .fitting (c .args .rule .now) in
     let near = f .near in
     let far = f .far in
@@ -39,20 +37,10 @@ returns-then-starts-after g c =
     let k = c .near-year-guess .ensures in
     let z : toZ w32 (ofZ w32 (toZ w32 (ofZ w32 (c .near-year-guess .result)) -ℤ pos 1)) ≡ c .near-year-guess .result -ℤ pos 1 =
     let near = f .near in let far = f .far in omega (arith, ints) in
-    let r : InRange (c .args .day) = record { low = omega arith; high = omega arith } in
-    let l = turn-before _ _ _ _ _ f (c .args .day) (c .near-year-guess .result) _ (c .in-Continue-near .near) k r (toZ-ofZ w32 _ fy) (c .in-Continue-near .ensures tt) _ (c .starts-after .ensures) (c .if-starts-after .taken) in
-    placed _ _ _ _ _ f (c .args .day) _ _ (c .in-Continue-year .field-0) r z l (c .in-Continue-year .ensures tt)
-
-pub returns-in-Break-year : need.returns-in-Break-year
-returns-in-Break-year g c =
-    let fy : SFits w32 (c .near-year-guess .result) = search needs in
-    let f = g .R·YearRule·met .fitting (c .args .rule .now) in
-    let k = c .near-year-guess .ensures in
-    let z : toZ w32 (ofZ w32 (toZ w32 (ofZ w32 (c .near-year-guess .result)) -ℤ pos 1)) ≡ c .near-year-guess .result -ℤ pos 1 =
-    let near = f .near in let far = f .far in omega (arith, ints) in
-    let r : InRange (c .args .day) = record { low = omega arith; high = omega arith } in
-    let l = turn-before _ _ _ _ _ f (c .args .day) (c .near-year-guess .result) _ (c .in-Continue-near .near) k r (toZ-ofZ w32 _ fy) (c .in-Continue-near .ensures tt) _ (c .starts-after .ensures) (c .if-starts-after .taken) in
-    not-none _ _ _ _ _ f (c .args .day) _ _ z (l .from) (l .upto) (c .in-Break-year .ensures tt) _ (c .from-residual-in-Break-year .ensures)
+    let r = c .in-range .ensures .0 (c .if-not-in-range .left) in
+    placed _ _ _ _ _ f (c .args .day) _ _ r z
+    (turn-before _ _ _ _ _ f (c .args .day) (c .near-year-guess .result) _ (c .in-Continue-near .near) k r (toZ-ofZ w32 _ fy) (c .in-Continue-near .ensures tt) _ (c .starts-after .ensures) (c .if-starts-after .taken))
+    _ (c .labelled .ensures)
 
 -- the year after, where the guessed one is over
 pub returns-then-ends-by : need.returns-then-ends-by
@@ -62,27 +50,18 @@ returns-then-ends-by g c =
     let k = c .near-year-guess .ensures in
     let z : toZ w32 (ofZ w32 (toZ w32 (ofZ w32 (c .near-year-guess .result)) +ℤ pos 1)) ≡ c .near-year-guess .result +ℤ pos 1 =
     let near = f .near in let far = f .far in omega (arith, ints) in
-    let r : InRange (c .args .day) = record { low = omega arith; high = omega arith } in
-    let l = turn-after _ _ _ _ _ f (c .args .day) (c .near-year-guess .result) _ (c .in-Continue-near .near) k r (toZ-ofZ w32 _ fy) (c .in-Continue-near .ensures tt) _ (c .ends-by .ensures) (c .if-ends-by .taken) in
-    placed _ _ _ _ _ f (c .args .day) _ _ (c .in-Continue-year-2 .field-0) r z l (c .in-Continue-year-2 .ensures tt)
-
-pub returns-in-Break-year-2 : need.returns-in-Break-year-2
-returns-in-Break-year-2 g c =
-    let fy : SFits w32 (c .near-year-guess .result) = search needs in
-    let f = g .R·YearRule·met .fitting (c .args .rule .now) in
-    let k = c .near-year-guess .ensures in
-    let z : toZ w32 (ofZ w32 (toZ w32 (ofZ w32 (c .near-year-guess .result)) +ℤ pos 1)) ≡ c .near-year-guess .result +ℤ pos 1 =
-    let near = f .near in let far = f .far in omega (arith, ints) in
-    let r : InRange (c .args .day) = record { low = omega arith; high = omega arith } in
-    let l = turn-after _ _ _ _ _ f (c .args .day) (c .near-year-guess .result) _ (c .in-Continue-near .near) k r (toZ-ofZ w32 _ fy) (c .in-Continue-near .ensures tt) _ (c .ends-by .ensures) (c .if-ends-by .taken) in
-    not-none _ _ _ _ _ f (c .args .day) _ _ z (l .from) (l .upto) (c .in-Break-year-2 .ensures tt) _ (c .from-residual-in-Break-year-2 .ensures)
+    let r = c .in-range .ensures .0 (c .if-not-in-range .left) in
+    placed _ _ _ _ _ f (c .args .day) _ _ r z
+    (turn-after _ _ _ _ _ f (c .args .day) (c .near-year-guess .result) _ (c .in-Continue-near .near) k r (toZ-ofZ w32 _ fy) (c .in-Continue-near .ensures tt) _ (c .ends-by .ensures) (c .if-ends-by .taken))
+    _ (c .labelled-then-ends-by .ensures)
 
 pub returns : need.returns
 returns g c =
     let fy : SFits w32 (c .near-year-guess .result) = search needs in
-    let e = toZ-ofZ w32 _ fy in
-    let r : InRange (c .args .day) = record { low = omega arith; high = omega arith } in
-    let a = c .in-Continue-near .ensures tt in
-    let f = g .R·YearRule·met .fitting (c .args .rule .now) in
-    placed _ _ _ _ _ f (c .args .day) (c .near-year-guess .result) _ (c .in-Continue-near .near) r e
-    (stay _ _ _ _ _ f (c .args .day) (c .near-year-guess .result) _ (c .in-Continue-near .near) (c .near-year-guess .ensures) r e a _ _ (c .starts-after .ensures) (c .if-starts-after .left) (c .ends-by .ensures) (c .if-ends-by .left)) a
+    let r = c .in-range .ensures .0 (c .if-not-in-range .left) in
+    let a = c .in-Continue-near .ensures tt in (
+      r,
+      stay _ _ _ _ _ (g .R·YearRule·met .fitting (c .args .rule .now)) (c .args .day) (c .near-year-guess .result) _ (c .in-Continue-near .near) (c .near-year-guess .ensures) r (toZ-ofZ w32 _ fy) a
+          _ _ (c .starts-after .ensures) (c .if-starts-after .left) (c .ends-by .ensures) (c .if-ends-by .left),
+      a .2,
+    )
