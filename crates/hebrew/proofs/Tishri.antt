@@ -102,20 +102,21 @@ small b n m = grind (arith, tells)
 pub hebrew-fits : Fitting hebrew hebrew-start (pos 3761) (pos 13761) day-one
 unfolding year-start new-year
 hebrew-fits = record {
-    filled = record { some-month = λ y. few (leap (natAbs y)) .0; some-day = λ y m _ _. small (leap (natAbs y)) (length-of-year (natAbs y)) m .0 };
-    adds = adds;
-    few = λ y. few (leap (natAbs y)) .1;
-    short = λ y m. small (leap (natAbs y)) (length-of-year (natAbs y)) m .1;
-    near = omega (arith, ints);
-    far = omega (arith, ints);
-    origin-valid = record { month-low = omega arith; month-high = omega arith; day-low = omega arith; day-high = omega arith };
-    origin-low = omega (arith, ints);
-    origin-high = omega (arith, ints);
-    some = omega (arith, ints);
-    day-one = refl;
-    last-day = omega (arith, ints);
-    start-low = omega (arith, ints);
-    start-high = omega (arith, ints) }
+  filled = record { some-month = λ y. few (leap (natAbs y)) .0; some-day = λ y m _ _. small (leap (natAbs y)) (length-of-year (natAbs y)) m .0 };
+  adds = adds;
+  few = λ y. few (leap (natAbs y)) .1;
+  short = λ y m. small (leap (natAbs y)) (length-of-year (natAbs y)) m .1;
+  near = omega (arith, ints);
+  far = omega (arith, ints);
+  origin-valid = record { month-low = omega arith; month-high = omega arith; day-low = omega arith; day-high = omega arith };
+  origin-low = omega (arith, ints);
+  origin-high = omega (arith, ints);
+  some = omega (arith, ints);
+  day-one = refl;
+  last-day = omega (arith, ints);
+  start-low = omega (arith, ints);
+  start-high = omega (arith, ints);
+}
 
 -- the day lies in year y: the guess is at most one year off
 near : (y n : ℕ) → Right y → 3761 ≤ y → year-start y ≤ n + 1373427 → n + 1373427 < year-start (y + 1) →

@@ -45,7 +45,8 @@ lengths-right false n m low high =
 pub year-right : (y : ℕ) (b : Bool) (n : ℕ) (r : Year) → 3761 ≤ y → y < 13761 → b ≡ leap y → n ≡ length-of-year y →
     r .start ≡ hebrew-start (pos y) → r .days ≡ n → r .months ≡ months-of b → r .lengths ≡ lengths b n → Is-year hebrew hebrew-start (pos y) r
 year-right y b n r low high eb en s d m l = record {
-    starts = s;
-    days = d ∙ (en ∙ sym (days-right y low high));
-    months = m ∙ ap months-of eb;
-    lengths = λ k one last. ap (λ xs. getD xs (k - 1) 0) (l ∙ (ap (λ x. lengths x n) eb ∙ ap (lengths (leap y)) en)) ∙ lengths-right (leap y) (length-of-year y) k one last }
+  starts = s;
+  days = d ∙ (en ∙ sym (days-right y low high));
+  months = m ∙ ap months-of eb;
+  lengths = λ k one last. ap (λ xs. getD xs (k - 1) 0) (l ∙ (ap (λ x. lengths x n) eb ∙ ap (lengths (leap y)) en)) ∙ lengths-right (leap y) (length-of-year y) k one last;
+}

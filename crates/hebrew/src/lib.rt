@@ -1,9 +1,9 @@
 // The Hebrew calendar, its months counted from Tishri: years 3761 to 13,760, and day 1 is the 18th of the fourth month
 // of year 3761.
-ghost use lib.IntN.{pos, _-ℤ_};
+ghost use lib.IntN.{pos};
 ghost use mathlib.Core.Path.{_≡_};
-ghost use Prim.Native.Nat.{_+_, _-_, _*_, _/_, _≤_, _<_};
-ghost use Rattle.hebrew.specs.Calendar.{leap, elapsed, molad-day, postponed, corrected, year-start, marheshvan, kislev, leap-lengths, common-lengths, months-of, lengths, hebrew, hebrew-start, day-one};
+ghost use Prim.Native.Nat.{_+_, _*_, _/_, _≤_, _<_};
+ghost use Rattle.hebrew.specs.Calendar.{leap, elapsed, molad-day, postponed, corrected, year-start, marheshvan, kislev, leap-lengths, common-lengths, months-of, lengths, hebrew, hebrew-start, day-one, moved as moved-month, twin};
 ghost use Rattle.years.specs.Rules.{Is-year};
 use years::rule::MONTHS_MOST;
 use years::rule::Year;
@@ -13,16 +13,17 @@ use years::rule::YearRule;
 pub struct Hebrew;
 
 const FIRST_YEAR: i32 = 3761;
+
 const PAST_YEAR: i32 = 13_761;
+
 const LAST_DAY: u32 = 3_652_059;
 // days from the calendar's epoch up to day 0
 const EPOCH: i32 = 1_373_427;
 
 fn is_leap(year: u32) -> bool
-    requires { ⌜ year < 13761 ⌝ }
     ensures { λ r. ⌜ r ≡ leap year ⌝ }
 {
-    (7 * year + 1) % 19 < 7
+    (7 * u64::from(year) + 1) % 19 < 7
 }
 
 // The day of a year's molad, or the day after where the year would begin on a day of the week that it doesn't begin on.
@@ -33,7 +34,11 @@ fn new_year(year: u32) -> u32
 {
     let months = (235 * year - 234) / 19;
     let molad = 29 * months + (12_084 + 13_753 * months) / 25_920;
-    if 3 * (molad + 1) % 7 < 3 { molad + 1 } else { molad }
+    if 3 * (molad + 1) % 7 < 3 {
+        molad + 1
+    } else {
+        molad
+    }
 }
 
 // The first day of a year, from the days found for the year before, for itself and for the next: no year has 356 days,
@@ -86,19 +91,53 @@ fn third_month(days: u16) -> u8
 fn leap_lengths(days: u16) -> [u8; MONTHS_MOST]
     ensures { λ r. ⌜ r ≡ leap-lengths days ⌝ }
 {
-    [30, second_month(days), third_month(days), 29, 30, 30, 29, 30, 29, 30, 29, 30, 29, 0]
+    [
+        30,
+        second_month(days),
+        third_month(days),
+        29,
+        30,
+        30,
+        29,
+        30,
+        29,
+        30,
+        29,
+        30,
+        29,
+        0,
+    ]
 }
 
 fn common_lengths(days: u16) -> [u8; MONTHS_MOST]
     ensures { λ r. ⌜ r ≡ common-lengths days ⌝ }
 {
-    [30, second_month(days), third_month(days), 29, 30, 29, 30, 29, 30, 29, 30, 29, 0, 0]
+    [
+        30,
+        second_month(days),
+        third_month(days),
+        29,
+        30,
+        29,
+        30,
+        29,
+        30,
+        29,
+        30,
+        29,
+        0,
+        0,
+    ]
 }
 
 fn lengths_of(leap_year: bool, days: u16) -> [u8; MONTHS_MOST]
     ensures { λ r. ⌜ r ≡ lengths «leap_year» days ⌝ }
 {
-    if leap_year { leap_lengths(days) } else { common_lengths(days) }
+    if leap_year {
+        leap_lengths(days)
+    } else {
+        common_lengths(days)
+    }
 }
 
 fn months_of(leap_year: bool) -> u8
@@ -128,6 +167,31 @@ fn guess(day: u32) -> u32
     ensures fits { λ r. ⌜ r ≤ 13761 ⌝ }
 {
     (day.min(LAST_DAY) + 475) * 400 / 146_099 + 3760
+}
+
+// A month of a common or leap year, here, in another, there.
+fn moved(here: bool, there: bool, month: u8) -> u8
+    ensures { λ r. ⌜ r ≡ moved-month here there month ⌝ }
+{
+    if !here && there && month >= 6 && month <= 12 {
+        month + 1
+    } else if here && !there && month >= 7 {
+        month - 1
+    } else {
+        month
+    }
+}
+
+// The month of another year that stands for a month of this one: Adar is the sixth of a common year and the seventh of a
+// leap year.
+pub fn twin_month(year: i32, month: u8, other: i32) -> u8
+    ensures { λ r. ⌜ r ≡ twin year month other ⌝ }
+{
+    moved(
+        is_leap(year.unsigned_abs()),
+        is_leap(other.unsigned_abs()),
+        month,
+    )
 }
 
 pub impl YearRule for Hebrew as HebrewYears {

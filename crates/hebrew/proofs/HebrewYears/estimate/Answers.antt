@@ -11,6 +11,6 @@ use Rattle.hebrew.proofs.HebrewYears.estimate.Needs as need
 pub returns : need.returns
 returns c r =
     let is : toZ w32 (c .guess .result) ≡ pos ((c .args .day + 475) * 400 / 146099 + 3760) =
-        let e = c .guess .ensures .is (r .high) in omega (arith, ints)
+    let e = c .guess .ensures .is (r .high) in omega (arith, ints)
     in
     hebrew-near (c .args .day) _ r is
