@@ -17,7 +17,8 @@ const FIRST_YEAR: i32 = 3761;
 const PAST_YEAR: i32 = 13_761;
 
 const LAST_DAY: u32 = 3_652_059;
-// days from the calendar's epoch up to day 0
+
+// the days of the calendar's own count up to day 0
 const EPOCH: i32 = 1_373_427;
 
 fn is_leap(year: u32) -> bool
@@ -26,7 +27,7 @@ fn is_leap(year: u32) -> bool
     (7 * u64::from(year) + 1) % 19 < 7
 }
 
-// The day of a year's molad, or the day after where the year would begin on a day of the week that it doesn't begin on.
+// The day of a year's molad, the mean new moon; or the day after, where no year begins on that day of the week.
 fn new_year(year: u32) -> u32
     requires { ⌜ 3760 ≤ year ⌝ ∗ ⌜ year ≤ 13762 ⌝ }
     ensures is { λ r. ⌜ r ≡ postponed (molad-day (elapsed year)) ⌝ }
@@ -41,8 +42,8 @@ fn new_year(year: u32) -> u32
     }
 }
 
-// The first day of a year, from the days found for the year before, for itself and for the next: no year has 356 days,
-// and none 382.
+// The first day of a year, from the days found for the year before, for itself and for the next. No year has 356 days or
+// 382: the second postponement.
 fn postpone(before: u32, here: u32, next: u32) -> u32
     requires { ⌜ here < 10000000 ⌝ }
     ensures is { λ r. ⌜ r ≡ corrected before here next ⌝ }
@@ -69,8 +70,8 @@ fn starts_of(year: u32) -> (u32, u32)
     let before = new_year(year - 1);
     let here = new_year(year);
     let next = new_year(year + 1);
-    let second = new_year(year + 2);
-    (postpone(before, here, next), postpone(here, next, second))
+    let after = new_year(year + 2);
+    (postpone(before, here, next), postpone(here, next, after))
 }
 
 // Marheshvan, longer in a complete year.
@@ -91,43 +92,18 @@ fn third_month(days: u16) -> u8
 fn leap_lengths(days: u16) -> [u8; MONTHS_MOST]
     ensures { λ r. ⌜ r ≡ leap-lengths days ⌝ }
 {
-    [
-        30,
-        second_month(days),
-        third_month(days),
-        29,
-        30,
-        30,
-        29,
-        30,
-        29,
-        30,
-        29,
-        30,
-        29,
-        0,
-    ]
+    let second = second_month(days);
+    let third = third_month(days);
+    [30, second, third, 29, 30, 30, 29, 30, 29, 30, 29, 30, 29, 0]
 }
 
+// The months of a common year: 30 and 29 days by turns, but for the second and third.
 fn common_lengths(days: u16) -> [u8; MONTHS_MOST]
     ensures { λ r. ⌜ r ≡ common-lengths days ⌝ }
 {
-    [
-        30,
-        second_month(days),
-        third_month(days),
-        29,
-        30,
-        29,
-        30,
-        29,
-        30,
-        29,
-        30,
-        29,
-        0,
-        0,
-    ]
+    let second = second_month(days);
+    let third = third_month(days);
+    [30, second, third, 29, 30, 29, 30, 29, 30, 29, 30, 29, 0, 0]
 }
 
 fn lengths_of(leap_year: bool, days: u16) -> [u8; MONTHS_MOST]
@@ -161,7 +137,7 @@ fn year_of(year: u32) -> Year
     }
 }
 
-// The year of a day, or one beside it: 400 years have about 146,099 days.
+// The year of a day, or one beside it: 400 years have about 146,099 days, and with 475 days added few guesses are wrong.
 fn guess(day: u32) -> u32
     ensures is { λ r. ⌜ (day ≤ 3652059 → r ≡ (day + 475) * 400 / 146099 + 3760) ⌝ }
     ensures fits { λ r. ⌜ r ≤ 13761 ⌝ }
@@ -169,7 +145,7 @@ fn guess(day: u32) -> u32
     (day.min(LAST_DAY) + 475) * 400 / 146_099 + 3760
 }
 
-// A month of a common or leap year, here, in another, there.
+// What a month of one year is in another: `here` and `there` say whether they are leap years.
 fn moved(here: bool, there: bool, month: u8) -> u8
     ensures { λ r. ⌜ r ≡ moved-month here there month ⌝ }
 {
