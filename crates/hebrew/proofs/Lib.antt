@@ -2,3 +2,4 @@ pub mod Guesses
 pub mod Tables
 pub mod Tishri
 pub mod Told
+pub mod Twins

@@ -84,13 +84,11 @@ hebrew-start y = pos (year-start (natAbs y)) -ℤ pos 1373427
 abbrev pub day-one : Date
 day-one = record { year = pos 3761; month = 4; day = 18 }
 
--- a month's place in a year that is leap or not, from its place in one that is
+-- a month of one year in another, each leap or not: Adar is the sixth of a common year and the seventh of a leap year, so the
+-- months from it on gain one or lose one
 abbrev pub moved : Bool → Bool → ℕ → ℕ
-moved false true m = cond (ltb m 6) m (m + 1)
-moved true false m = cond (ltb m 7) m (m - 1)
-moved false false m = m
-moved true true m = m
+moved here there m = cond (not here && (there && (leb 6 m && leb m 12))) (m + 1) (cond (here && (not there && leb 7 m)) (m - 1) m)
 
--- the month of the other year that goes by the same name; in a common year the sixth stands for the two of a leap year
+-- the month of the other year that stands for a month of this one
 abbrev pub twin : ℤ → ℕ → ℤ → ℕ
 twin year month other = moved (leap (natAbs year)) (leap (natAbs other)) month

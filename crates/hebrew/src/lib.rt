@@ -1,9 +1,9 @@
 // The Hebrew calendar, its months counted from Tishri: years 3761 to 13,760, and day 1 is the 18th of the fourth month
 // of year 3761.
-ghost use lib.IntN.{pos, _-ℤ_};
+ghost use lib.IntN.{pos};
 ghost use mathlib.Core.Path.{_≡_};
-ghost use Prim.Native.Nat.{_+_, _-_, _*_, _/_, _≤_, _<_};
-ghost use Rattle.hebrew.specs.Calendar.{leap, elapsed, molad-day, postponed, corrected, year-start, marheshvan, kislev, leap-lengths, common-lengths, months-of, lengths, hebrew, hebrew-start, day-one};
+ghost use Prim.Native.Nat.{_+_, _*_, _/_, _≤_, _<_};
+ghost use Rattle.hebrew.specs.Calendar.{leap, elapsed, molad-day, postponed, corrected, year-start, marheshvan, kislev, leap-lengths, common-lengths, months-of, lengths, hebrew, hebrew-start, day-one, moved as moved-month, twin};
 ghost use Rattle.years.specs.Rules.{Is-year};
 use years::rule::MONTHS_MOST;
 use years::rule::Year;
@@ -17,17 +17,17 @@ const FIRST_YEAR: i32 = 3761;
 const PAST_YEAR: i32 = 13_761;
 
 const LAST_DAY: u32 = 3_652_059;
-// days from the calendar's epoch up to day 0
+
+// the days of the calendar's own count up to day 0
 const EPOCH: i32 = 1_373_427;
 
 fn is_leap(year: u32) -> bool
-    requires { ⌜ year < 13761 ⌝ }
     ensures { λ r. ⌜ r ≡ leap year ⌝ }
 {
-    (7 * year + 1) % 19 < 7
+    (7 * u64::from(year) + 1) % 19 < 7
 }
 
-// The day of a year's molad, or the day after where the year would begin on a day of the week that it doesn't begin on.
+// The day of a year's molad, the mean new moon; or the day after, where no year begins on that day of the week.
 fn new_year(year: u32) -> u32
     requires { ⌜ 3760 ≤ year ⌝ ∗ ⌜ year ≤ 13762 ⌝ }
     ensures is { λ r. ⌜ r ≡ postponed (molad-day (elapsed year)) ⌝ }
@@ -42,8 +42,8 @@ fn new_year(year: u32) -> u32
     }
 }
 
-// The first day of a year, from the days found for the year before, for itself and for the next: no year has 356 days,
-// and none 382.
+// The first day of a year, from the days found for the year before, for itself and for the next. No year has 356 days or
+// 382: the second postponement.
 fn postpone(before: u32, here: u32, next: u32) -> u32
     requires { ⌜ here < 10000000 ⌝ }
     ensures is { λ r. ⌜ r ≡ corrected before here next ⌝ }
@@ -70,8 +70,8 @@ fn starts_of(year: u32) -> (u32, u32)
     let before = new_year(year - 1);
     let here = new_year(year);
     let next = new_year(year + 1);
-    let second = new_year(year + 2);
-    (postpone(before, here, next), postpone(here, next, second))
+    let after = new_year(year + 2);
+    (postpone(before, here, next), postpone(here, next, after))
 }
 
 // Marheshvan, longer in a complete year.
@@ -92,43 +92,18 @@ fn third_month(days: u16) -> u8
 fn leap_lengths(days: u16) -> [u8; MONTHS_MOST]
     ensures { λ r. ⌜ r ≡ leap-lengths days ⌝ }
 {
-    [
-        30,
-        second_month(days),
-        third_month(days),
-        29,
-        30,
-        30,
-        29,
-        30,
-        29,
-        30,
-        29,
-        30,
-        29,
-        0,
-    ]
+    let second = second_month(days);
+    let third = third_month(days);
+    [30, second, third, 29, 30, 30, 29, 30, 29, 30, 29, 30, 29, 0]
 }
 
+// The months of a common year: 30 and 29 days by turns, but for the second and third.
 fn common_lengths(days: u16) -> [u8; MONTHS_MOST]
     ensures { λ r. ⌜ r ≡ common-lengths days ⌝ }
 {
-    [
-        30,
-        second_month(days),
-        third_month(days),
-        29,
-        30,
-        29,
-        30,
-        29,
-        30,
-        29,
-        30,
-        29,
-        0,
-        0,
-    ]
+    let second = second_month(days);
+    let third = third_month(days);
+    [30, second, third, 29, 30, 29, 30, 29, 30, 29, 30, 29, 0, 0]
 }
 
 fn lengths_of(leap_year: bool, days: u16) -> [u8; MONTHS_MOST]
@@ -162,12 +137,37 @@ fn year_of(year: u32) -> Year
     }
 }
 
-// The year of a day, or one beside it: 400 years have about 146,099 days.
+// The year of a day, or one beside it: 400 years have about 146,099 days, and with 475 days added few guesses are wrong.
 fn guess(day: u32) -> u32
     ensures is { λ r. ⌜ (day ≤ 3652059 → r ≡ (day + 475) * 400 / 146099 + 3760) ⌝ }
     ensures fits { λ r. ⌜ r ≤ 13761 ⌝ }
 {
     (day.min(LAST_DAY) + 475) * 400 / 146_099 + 3760
+}
+
+// What a month of one year is in another: `here` and `there` say whether they are leap years.
+fn moved(here: bool, there: bool, month: u8) -> u8
+    ensures { λ r. ⌜ r ≡ moved-month here there month ⌝ }
+{
+    if !here && there && month >= 6 && month <= 12 {
+        month + 1
+    } else if here && !there && month >= 7 {
+        month - 1
+    } else {
+        month
+    }
+}
+
+// The month of another year that stands for a month of this one: Adar is the sixth of a common year and the seventh of a
+// leap year.
+pub fn twin_month(year: i32, month: u8, other: i32) -> u8
+    ensures { λ r. ⌜ r ≡ twin year month other ⌝ }
+{
+    moved(
+        is_leap(year.unsigned_abs()),
+        is_leap(other.unsigned_abs()),
+        month,
+    )
 }
 
 pub impl YearRule for Hebrew as HebrewYears {
