@@ -158,18 +158,6 @@ fn moved(here: bool, there: bool, month: u8) -> u8
     }
 }
 
-// The month of another year that stands for a month of this one: Adar is the sixth of a common year and the seventh of a
-// leap year.
-pub fn twin_month(year: i32, month: u8, other: i32) -> u8
-    ensures { λ r. ⌜ r ≡ twin year month other ⌝ }
-{
-    moved(
-        is_leap(year.unsigned_abs()),
-        is_leap(other.unsigned_abs()),
-        month,
-    )
-}
-
 pub impl YearRule for Hebrew as HebrewYears {
     ghost shape = { λ _. hebrew };
 
@@ -180,6 +168,8 @@ pub impl YearRule for Hebrew as HebrewYears {
     ghost past = { λ _. pos 13761 };
 
     ghost origin = { λ _. day-one };
+
+    ghost twin = { λ _. twin };
 
     fn first_year(&self) -> i32 {
         FIRST_YEAR
@@ -198,5 +188,14 @@ pub impl YearRule for Hebrew as HebrewYears {
 
     fn estimate(&self, day: u32) -> i32 {
         guess(day) as i32
+    }
+
+    // Adar is the sixth month of a common year and the seventh of a leap year.
+    fn twin_month(&self, year: i32, month: u8, other: i32) -> u8 {
+        moved(
+            is_leap(year.unsigned_abs()),
+            is_leap(other.unsigned_abs()),
+            month,
+        )
     }
 }

@@ -2,7 +2,7 @@
 ghost use lib.IntN.{pos};
 ghost use mathlib.Core.Path.{_≡_};
 ghost use Prim.Native.Nat.{_+_, _*_, _/_, _≤_};
-ghost use Rattle.iso8601.specs.Gregorian.{leap, lengths, start-of, gregorian, gregorian-start, first-of-january};
+ghost use Rattle.iso8601.specs.Gregorian.{leap, lengths, start-of, gregorian, gregorian-start, first-of-january, twin};
 use years::rule::MONTHS_MOST;
 use years::rule::Year;
 use years::rule::YearRule;
@@ -59,6 +59,8 @@ pub impl YearRule for Iso8601 as Iso8601Years {
 
     ghost origin = { λ _. first-of-january };
 
+    ghost twin = { λ _. twin };
+
     fn first_year(&self) -> i32 {
         FIRST_YEAR
     }
@@ -85,5 +87,10 @@ pub impl YearRule for Iso8601 as Iso8601Years {
 
     fn estimate(&self, day: u32) -> i32 {
         guess(day) as i32
+    }
+
+    // Every year has the same months.
+    fn twin_month(&self, _year: i32, month: u8, _other: i32) -> u8 {
+        month
     }
 }
