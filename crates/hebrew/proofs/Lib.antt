@@ -1,4 +1,3 @@
-pub mod Guesses
 pub mod Tables
 pub mod Tishri
 pub mod Told

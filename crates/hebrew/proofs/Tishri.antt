@@ -11,7 +11,7 @@ use Rattle.std.proofs.shelf.Ways.{tells}
 use Rattle.years.specs.Dates.{Shape, Valid, Filled, days-in, number, Adds}
 use Rattle.years.specs.Days.{Fitting, InRange, Near}
 use Rattle.hebrew.specs.Calendar.{new-year, year-start, leap, length-of-year, months-of, month-length, hebrew, hebrew-start, day-one}
-use Rattle.hebrew.proofs.Guesses.{near-by}
+use Rattle.years.proofs.Guesses.{near-by}
 use Rattle.hebrew.proofs.Tables.{every, within, both-left, both-right}
 
 -- the lengths that a year can have

@@ -1,3 +1,2 @@
-pub mod Guesses
 pub mod Proleptic
 pub mod Twins

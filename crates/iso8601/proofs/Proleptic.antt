@@ -15,7 +15,7 @@ use Rattle.std.proofs.shelf.Ways.{tells}
 use Rattle.years.specs.Dates.{Shape, Adds}
 use Rattle.years.specs.Days.{Fitting, InRange, Near}
 use Rattle.iso8601.specs.Gregorian.{leap, february, lengths, gregorian, start-of, gregorian-start, first-of-january}
-use Rattle.iso8601.proofs.Guesses.{near-by}
+use Rattle.years.proofs.Guesses.{near-by}
 
 -- a year is longer by the leap day
 year-adds : (y : ℕ) → 1 ≤ y → start-of (y + 1) ≡ start-of y + (337 + february (leap y))

@@ -1,4 +1,5 @@
 pub mod Daily
+pub mod Guesses
 pub mod Numbers
 pub mod Order
 pub mod Ordered
