@@ -3,5 +3,6 @@ pub mod beside;
 pub mod named;
 mod naming;
 mod one;
+pub mod order;
 pub mod single;
 pub mod source;

@@ -2,5 +2,4 @@ pub mod Daily
 pub mod Guesses
 pub mod Numbers
 pub mod Order
-pub mod Ordered
 pub mod Within

@@ -1,6 +1,5 @@
 pub mod Dates
 pub mod Days
 pub mod Lengths
-pub mod Orders
 pub mod Places
 pub mod Rules

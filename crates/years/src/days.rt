@@ -6,7 +6,6 @@ ghost use mathlib.Core.Path.{_≡_};
 ghost use Rattle.std.specs.Orderings.{Decides};
 ghost use Rattle.years.specs.Days.{DateAnswer, DayAnswer, InRange};
 ghost use Rattle.years.specs.Lengths.{MonthAnswer, IntoAnswer, NumberAnswer, first-days};
-ghost use Rattle.years.specs.Orders.{OrderAnswer};
 ghost use Rattle.years.specs.Places.{Beside, LabelAnswer, PlaceAnswer};
 use super::date::Date;
 use super::rule::Year;
@@ -36,15 +35,6 @@ pub fn day_of_date<R: YearRule>(rule: &R, date: Date) -> Option<u32>
     let year = rule.year(date.year)?;
     let into = days_into(&year, date.month, date.day)?;
     numbered(year.start, into)
-}
-
-// Whether one date comes before another, by year, then month, then day; none where one is no day's.
-pub fn comes_before<R: YearRule>(rule: &R, date: Date, other: Date) -> Option<bool>
-    ensures { λ r. ⌜ OrderAnswer (R·YearRule .shape (now (rule .entry))) (R·YearRule .origin (now (rule .entry))) date other r ⌝ }
-{
-    let first = day_of_date(rule, date)?;
-    let second = day_of_date(rule, other)?;
-    Some(first < second)
 }
 
 // The year in which the day lies, with its number; none for a day out of range.
