@@ -1,4 +1,6 @@
 // The batch program: runs the script that stands on standard input, over 32 span slots, and prints an answer a line.
+#![tactic(auto)]
+
 use anyhow::anyhow;
 use planboard::board::Board;
 use script::run::{SCRIPT_LIMIT, room_for, run_script};

@@ -1,4 +1,6 @@
 // Calendar sources: tables of calendars, known by what they mean.
+#![tactic(auto)]
+
 pub mod beside;
 pub mod named;
 mod naming;

@@ -1,4 +1,6 @@
 // Examples, as tests: the two calendars side by side, as a board has them.
+#![tactic(auto)]
+
 #[cfg(test)]
 mod tests {
     use calendar::beside::Beside;

@@ -1,5 +1,7 @@
 // The Hebrew calendar, its months counted from Tishri: years 3761 to 13,760, and day 1 is the 18th of the fourth month
 // of year 3761.
+#![tactic(auto)]
+
 ghost use Rattle.std.specs.Prelude.{◌≡◌, ◌+◌, ◌*◌, ◌/◌, ◌<◌, ◌≤◌, pos};
 ghost use Rattle.hebrew.specs.Calendar.{leap, elapsed, molad_day, postponed, corrected, year_start, marheshvan, kislev, leap_lengths, common_lengths, months_of, lengths, hebrew, hebrew_start, day_one, moved as moved_month, twin};
 ghost use Rattle.years.specs.Rules.{IsYear};

@@ -1,4 +1,6 @@
 // The Gregorian calendar, carried back to year 1: years 1 to 9999, and day 1 is 1 January of year 1.
+#![tactic(auto)]
+
 ghost use Rattle.std.specs.Prelude.{◌≡◌, ◌+◌, ◌*◌, ◌/◌, ◌≤◌, pos};
 ghost use Rattle.iso8601.specs.Gregorian.{leap, lengths, start_of, gregorian, gregorian_start, first_of_january, twin};
 ghost use Rattle.iso8601.specs.Proleptic.{gregorian_fits};

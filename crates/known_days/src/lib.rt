@@ -1,4 +1,6 @@
 // Known days of the calendars, as theorems of their rules.
+#![tactic(auto)]
+
 ghost use Rattle.known_days.specs.Known.{GregorianDay, HebrewDay, KnownDays};
 
 // The contract is the point: it holds of the rules themselves, and the code only carries it. The day on which the year

@@ -1,4 +1,6 @@
 // The forms of names.
+#![tactic(auto)]
+
 ghost use Rattle.std.specs.Prelude.{◌≡◌};
 ghost use Rattle.reading.specs.Places.{AnswersWithin};
 ghost use Rattle.names.specs.Names.{CalendarName};

@@ -1,4 +1,6 @@
 // Examples, as tests: what is refused alters nothing, and what is written leaves the rest as it was.
+#![tactic(auto)]
+
 #[cfg(test)]
 mod tests {
     use planboard::board::Board;

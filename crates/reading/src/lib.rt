@@ -1,4 +1,6 @@
 // Reading a text byte by byte, and where a text that doesn't read goes wrong.
+#![tactic(auto)]
+
 ghost use Rattle.std.specs.Prelude.{◌≡◌, ℕ, Option as Maybe};
 ghost use Rattle.reading.specs.Reading.{read_on, limited};
 

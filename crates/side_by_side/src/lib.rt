@@ -1,4 +1,6 @@
 // Two tables side by side: the first's numbers, then the second's.
+#![tactic(auto)]
+
 ghost use Rattle.std.specs.Prelude.{◌≡◌};
 ghost use Rattle.side_by_side.specs.Places.{joined_count, place_of};
 

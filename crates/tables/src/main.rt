@@ -1,5 +1,7 @@
 // Compares published tables of dates with the calendars, from day number to date and from date to day number. It prints
 // a line a row, with the dates that the calendars give, and at last how many rows there are and how many differ.
+#![tactic(auto)]
+
 mod compare;
 mod report;
 mod row;

@@ -1,4 +1,6 @@
 // What every layer shares: refusals, the parts and limits of a span, and signed division with its remainder.
+#![tactic(auto)]
+
 pub mod divisor;
 pub mod fault;
 pub mod span;

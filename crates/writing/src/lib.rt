@@ -1,5 +1,7 @@
 // Texts put into a lent buffer, piece after piece. A piece is put as far as it fits, so that a writer asks for room once,
 // for its whole text.
+#![tactic(auto)]
+
 ghost use Rattle.std.specs.Prelude.{◌≡◌, ◌≤◌, [], ◌∷◌, take, decimal};
 ghost use Rattle.std.specs.List.{between};
 ghost use Rattle.writing.specs.Fractions.{point_text};

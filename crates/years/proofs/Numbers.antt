@@ -101,8 +101,8 @@ module _ (s : Shape) (start : ℤ → ℤ) (lo hi : ℤ) (adds : Adds s start lo
 -- the first year starts on day 1 or before
 pub first_start : (s : Shape) (start : ℤ → ℤ) (lo hi : ℤ) (o : Date) → Fitting s start lo hi o → start lo ≤ℤ pos 1
 first_start s start lo hi o f =
-    let r = start_rises s start lo hi f.adds lo o.year (omega (arith, ints)) f.origin-low (omega (arith, ints)) in
-    let d = f.day-one in
+    let r = start_rises s start lo hi f.adds lo o.year (omega (arith, ints)) f.origin_low (omega (arith, ints)) in
+    let d = f.day_one in
     omega (arith, ints)
 
 -- of the date of a day number: it is valid, lies in the calendar's years, and its number is that
@@ -115,9 +115,9 @@ pub record There (s : Shape) (start : ℤ → ℤ) (lo hi : ℤ) (d : Date) (n :
 module _ (s : Shape) (start : ℤ → ℤ) (lo hi : ℤ) (o : Date) (f : Fitting s start lo hi o) where
   pub there_is : (n : ℕ) → InRange n → There s start lo hi (after s o (n - 1)) n
   there_is n r =
-      let one = f.day-one in
-      let a = after_number s start lo hi f.adds o f.filled f.origin-valid f.origin-low f.origin-high (n - 1) (let l = f.last-day in omega (arith, ints)) in
-      record { valid = after_valid s o f.filled f.origin-valid (n - 1); low = a.low; high = a.high; is = let i = a.is in omega (arith, ints) }
+      let one = f.day_one in
+      let a = after_number s start lo hi f.adds o f.filled f.origin_valid f.origin_low f.origin-high (n - 1) (let l = f.last-day in omega (arith, ints)) in
+      record { valid = after_valid s o f.filled f.origin_valid (n - 1); low = a.low; high = a.high; is = let i = a.is in omega (arith, ints) }
 
   pub there : (d : Date) (n : ℕ) → InRange n → d ≡ after s o (n - 1) → There s start lo hi d n
   there d n r e = subst (λ (x : Date). There s start lo hi x n) (sym e) (there_is n r)

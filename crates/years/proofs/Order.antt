@@ -34,7 +34,7 @@ next_valid s d f v =
     by_next s d (Valid s)
     (λ h. record { month_low = v.month_low; month_high = v.month_high; day_low = omega arith; day_high = omega arith })
     (λ h k. record { month_low = omega arith; month_high = omega arith; day_low = omega arith; day_high = f.some_day d.year (d.month + 1) (omega arith) (omega arith) })
-    (λ h k. record { month_low = omega arith; month_high = f.some-month (d.year +ℤ pos 1); day_low = omega arith; day_high = f.some_day (d.year +ℤ pos 1) 1 (omega arith) (f.some-month (d.year +ℤ pos 1)) })
+    (λ h k. record { month_low = omega arith; month_high = f.some_month (d.year +ℤ pos 1); day_low = omega arith; day_high = f.some_day (d.year +ℤ pos 1) 1 (omega arith) (f.some_month (d.year +ℤ pos 1)) })
 
 pub after_valid : (s : Shape) (d : Date) → Filled s → Valid s d → (k : ℕ) → Valid s (after s d k)
 unfolding after

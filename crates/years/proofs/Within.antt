@@ -21,14 +21,14 @@ module _ (s : Shape) (start : ℤ → ℤ) (y : ℤ) (r : Year) (is : IsYear s s
   -- a day of the year stands in one of its months
   pub stands : (rest m d : ℕ) → rest < days_in s y (s.months y) → Stands r rest m d → MonthDay s y rest m d
   stands rest m d within w =
-      let low = w.month-low in
+      let low = w.month_low in
       let all = same_days (s.months y) (omega arith) in
       let inside : m ≤ s.months y = ⊎_elim (λ (l : m - 1 < s.months y). let k : m ≤ s.months y = omega arith in k)
       (λ (l : s.months y ≤ m - 1). let g = days_rise (alone r) (pos 0) (s.months y) (m - 1) l in let i = w.is in absurd (omega arith)) (cases_lt (m - 1) (s.months y)) in
       let here = is.lengths m low inside in
       let before = same_days (m - 1) (omega arith) in
       let i = w.is in
-      record { month_low = low; month_high = inside; day_low = w.day-low; day_high = omega arith; is = omega arith }
+      record { month_low = low; month_high = inside; day_low = w.day_low; day_high = omega arith; is = omega arith }
 
   -- and the year's lengths leave out none of its days
   pub none_past : (rest : ℕ) → s.months y ≤ 14 → rest < days_in s y (s.months y) → first_days r 14 ≤ rest → ⊥

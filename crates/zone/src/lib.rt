@@ -1,4 +1,6 @@
 // Zone sources: tables of zones, known by what they mean.
+#![tactic(auto)]
+
 pub mod alike;
 pub mod beside;
 mod depth;

@@ -1,4 +1,6 @@
 // Zones told by a rule: what one zone says of every second, and the source that it makes under a name.
+#![tactic(auto)]
+
 pub mod named_zone;
 mod range;
 pub mod rule;

@@ -11,10 +11,10 @@ returns-in-err-state g c =
 
 pub loop-left-preserved : goal.loop-left-preserved
 loop-left-preserved g c =
-    let some = ok_or_some c.step.result c.loop-left.at c.in-ok-state.state c.in-ok-state.ensures.value in (
+    let some = ok_or_some c.step.result c.loop-left.at c.in_ok-state.state c.in_ok-state.ensures.value in (
       read_more g.S.Scan.stepped g.S.Scan.ended _ _ _ c.loop-left.left.now (omega (arith, ltb-false)) (sym c.step.ensures ∙ some) ∙ c.loop-left.invariant.0,
       rest_count c.loop-left.left.now _ _ (omega (arith, ltb-false)) c.loop-left.invariant.1,
     )
 
 pub returns : goal.returns
-returns g c = c.ok-or-2.ensures.value ∙ rw c.end.ensures (sym (read_end g.S.Scan.stepped g.S.Scan.ended _ _ c.loop-left.left.now (omega (arith, ltb-true))) ∙ c.loop-left.invariant.0)
+returns g c = c.ok_or-2.ensures.value ∙ rw c.end.ensures (sym (read_end g.S.Scan.stepped g.S.Scan.ended _ _ c.loop-left.left.now (omega (arith, ltb-true))) ∙ c.loop-left.invariant.0)

@@ -8,5 +8,5 @@ returns-then-at-out c = placed_past c.args.out.now c.args.at c.args.bytes.now c.
 
 pub returns : goal.returns
 returns c =
-    placed_copy c.args.out.now c.args.bytes.now c.copy-from-slice.new.self c.args.at c.min-count.result _ _
-    c.min-count.ensures c.copy-from-slice.ensures.after (omega arith) (omega arith)
+    placed_copy c.args.out.now c.args.bytes.now c.copy_from_slice.new.self c.args.at c.min-count.result _ _
+    c.min-count.ensures c.copy_from_slice.ensures.after (omega arith) (omega arith)

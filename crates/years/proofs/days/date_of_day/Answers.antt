@@ -19,7 +19,7 @@ returns-in-err-month g c =
 
 pub returns : goal.returns
 returns g c =
-    let fy : SFits w32 c.in-ok-number.number = search rules in
-    let a = c.in-ok-number.ensures in
-    dated _ _ _ _ _ (g.met.R.YearRule.fitting c.args.rule.now) c.args.day c.days-since-start-rest.result c.in-ok-number.number c.in-ok-number.year
+    let fy : SFits w32 c.in_ok-number.number = search rules in
+    let a = c.in_ok-number.ensures in
+    dated _ _ _ _ _ (g.met.R.YearRule.fitting c.args.rule.now) c.args.day c.days-since-start-rest.result c.in_ok-number.number c.in_ok-number.year
     a.0 a.1 a.2 c.days-since-start-rest.ensures c.in-ok-month.month c.in-ok-month.day _ (to_z-of_z w32 _ fy) c.in-ok-month.ensures

@@ -24,7 +24,7 @@ returns-in-err-into g c =
 pub returns : goal.returns
 returns g c =
     let fy : SFits w32 c.args.date.year = search rules in
-    let fs : SFits w32 c.in-ok-year.year.start = search rules in
-    let into = c.in-ok-into.ensures in
-    numbers _ _ _ _ _ (g.met.R.YearRule.fitting c.args.rule.now) c.args.date c.in-ok-year.year _ c.in-ok-into.into (to_z-of_z w32 _ fy)
-    c.in-ok-year.ensures into.0 into.1 _ (to_z-of_z w32 _ fs) c.numbered.result c.numbered.ensures
+    let fs : SFits w32 c.in_ok-year.year.start = search rules in
+    let into = c.in_ok-into.ensures in
+    numbers _ _ _ _ _ (g.met.R.YearRule.fitting c.args.rule.now) c.args.date c.in_ok-year.year _ c.in_ok-into.into (to_z-of_z w32 _ fy)
+    c.in_ok-year.ensures into.0 into.1 _ (to_z-of_z w32 _ fs) c.numbered.result c.numbered.ensures

@@ -9,20 +9,20 @@ clamp-requires g c =
     let some = f.some in
     let near = f.near in
     let far = f.far in
-    let a = c.first-year.ensures in
-    let b = c.past-year.ensures in
+    let a = c.first_year.ensures in
+    let b = c.past_year.ensures in
     omega (arith, ints)
 
 pub returns : goal.returns
 returns g c =
     let fe : SFits w32 c.estimate.result = search rules in
-    let fl : SFits w32 c.first-year.result = search rules in
+    let fl : SFits w32 c.first_year.result = search rules in
     let fr : SFits w32 c.clamp.result = search rules in
     let f = g.met.R.YearRule.fitting c.args.rule.now in
-    let most : to_z w32 (of_z w32 (to_z w32 (of_z w32 c.past-year.result) -ℤ pos 1)) ≡ g.R.YearRule.past c.args.rule.now -ℤ pos 1 =
-    let b = c.past-year.ensures in
+    let most : to_z w32 (of_z w32 (to_z w32 (of_z w32 c.past_year.result) -ℤ pos 1)) ≡ g.R.YearRule.past c.args.rule.now -ℤ pos 1 =
+    let b = c.past_year.ensures in
     let near = f.near in
     let some = f.some in
     omega (arith, ints) in
-    beside _ _ _ _ _ f c.args.day c.estimate.result _ _ _ _ c.estimate.ensures (to_z-of_z w32 _ fe) (to_z-of_z w32 _ fl ∙ c.first-year.ensures) most
+    beside _ _ _ _ _ f c.args.day c.estimate.result _ _ _ _ c.estimate.ensures (to_z-of_z w32 _ fe) (to_z-of_z w32 _ fl ∙ c.first_year.ensures) most
     (to_z-of_z w32 _ fr ∙ c.clamp.ensures.value)

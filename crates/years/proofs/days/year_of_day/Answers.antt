@@ -52,11 +52,11 @@ returns-then-ends-by g c =
 
 pub returns : goal.returns
 returns g c =
-    let fy : SFits w32 c.near-year-guess.result = search rules in
-    let r = c.in-range.ensures.0 c.if-not-in-range.false in
+    let fy : SFits w32 c.near_year-guess.result = search rules in
+    let r = c.in_range.ensures.0 c.if-not-in_range.false in
     let a = c.in-ok-near.ensures in (
       r,
-      stay _ _ _ _ _ (g.met.R.YearRule.fitting c.args.rule.now) c.args.day c.near-year-guess.result _ c.in-ok-near.near c.near-year-guess.ensures r (to_z-of_z w32 _ fy) a
+      stay _ _ _ _ _ (g.met.R.YearRule.fitting c.args.rule.now) c.args.day c.near_year-guess.result _ c.in-ok-near.near c.near_year-guess.ensures r (to_z-of_z w32 _ fy) a
           _ _ c.starts-after.ensures c.if-starts-after.false c.ends-by.ensures c.if-ends-by.false,
       a.2,
     )
