@@ -6,7 +6,7 @@ use Rattle.hebrew.proofs.starts_of.Goals as goal
 
 pub returns : goal.returns
 returns c =
-    let b = starts c.args.year _ _ _ _ (omega arith) c.new-year-before.ensures.is c.new-year-here.ensures.is c.new-year-next.ensures.is c.new-year-after.ensures.is in
+    let b = starts c.args.year _ _ _ _ (omega arith) c.new_year-before.ensures.is c.new_year-here.ensures.is c.new_year-next.ensures.is c.new_year-after.ensures.is in
     let this = c.postpone.ensures.is ∙ b.0 in
     let next = c.postpone-2.ensures.is ∙ b.1 in
     let d = year_days c.args.year c.requires.0 c.requires.1 in

@@ -6,9 +6,9 @@ use Rattle.hebrew.proofs.year_of.Goals as goal
 
 pub returns : goal.returns
 returns c =
-    let this = c.starts-of-start.ensures.this in
-    let next = c.starts-of-start.ensures.next in
-    let fits = c.starts-of-start.ensures.fits in
-    let days : c.starts-of-start.result.1 - c.starts-of-start.result.0 ≡ length_of_year c.args.year = omega arith in
-    year_right c.args.year c.is-leap-leap-year.result _ _ c.requires.0 c.requires.1 c.is-leap-leap-year.ensures days (omega (arith, ints)) refl
-    c.months-of.ensures c.lengths-of.ensures
+    let this = c.starts_of-start.ensures.this in
+    let next = c.starts_of-start.ensures.next in
+    let fits = c.starts_of-start.ensures.fits in
+    let days : c.starts_of-start.result.1 - c.starts_of-start.result.0 ≡ length_of_year c.args.year = omega arith in
+    year_right c.args.year c.is_leap-leap_year.result _ _ c.requires.0 c.requires.1 c.is_leap-leap_year.ensures days (omega (arith, ints)) refl
+    c.months_of.ensures c.lengths_of.ensures

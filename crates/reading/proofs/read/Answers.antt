@@ -3,10 +3,10 @@ use Rattle.std.proofs.lemmas.Result.{err_from_is_err_and}
 use Rattle.reading.proofs.Machines.{ok_or_some, ok_or_none, read_more, read_stuck, read_end, rest_count}
 use Rattle.reading.proofs.read.Goals as goal
 
-pub returns-in-err-state : goal.returns-in-err-state
-returns-in-err-state g c =
-    let p = err_from_is_err_and c.from-residual.result c.from-residual.ensures.1 in
-    let n = ok_or_none c.step.result c.loop-left.at c.in-err-state.field-0.0 c.in-err-state.ensures.value in
+pub returns-in_err-state : goal.returns-in_err-state
+returns-in_err-state g c =
+    let p = err_from_is_err_and c.from_residual.result c.from_residual.ensures.1 in
+    let n = ok_or_none c.step.result c.loop-left.at c.in_err-state.field-0.0 c.in_err-state.ensures.value in
     p.1 ∙ (ap Err (p.2 ∙ n.1) ∙ (sym (read_stuck g.S.Scan.stepped g.S.Scan.ended c.loop-left.state c.loop-left.at c.loop-left.left.now (omega (arith, ltb-false)) (sym c.step.ensures ∙ n.0)) ∙ c.loop-left.invariant.0))
 
 pub loop-left-preserved : goal.loop-left-preserved

@@ -10,13 +10,13 @@ loop-k-init c = grind (arith, to_z-of_z, change_start)
 pub returns-then-before-t : goal.returns-then-before-t
 returns-then-before-t c = grind (arith, ints, to_z-of_z, change_stop)
 
-pub returns-then-type-offset-offset : goal.returns-then-type-offset-offset
-returns-then-type-offset-offset c =
-    let d : c.type-offset.result ≡ c.offset-after-offset.result → ⊥ = λ e. c.if-type-offset-offset.true (rw e) in
+pub returns-then-type_offset-offset : goal.returns-then-type_offset-offset
+returns-then-type_offset-offset c =
+    let d : c.type_offset.result ≡ c.offset_after-offset.result → ⊥ = λ e. c.if-type_offset-offset.true (rw e) in
     let a = c.passed-start.ensures.after c.loop-k.k c.loop-k.auto.k c.loop-k-test.true in
     grind (arith, ints, to_z-of_z, change_here)
 
 pub loop-k-preserved : goal.loop-k-preserved
 loop-k-preserved c =
-    let d : c.type-offset.result ≡ c.offset-after-offset.result = grind (arith, ints) in
+    let d : c.type_offset.result ≡ c.offset_after-offset.result = grind (arith, ints) in
     grind (arith, ints, to_z-of_z, change_more)

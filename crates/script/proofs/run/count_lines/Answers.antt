@@ -10,5 +10,5 @@ loop-line-preserved c =
 
 pub returns : goal.returns
 returns c =
-    let none : length (lines_of c.loop-line.left.now) ≡ 0 = ap (λ z. length (lines_of z)) c.in-default.ensures ∙ ap length no_lines in
+    let none : length (lines_of c.loop-line.left.now) ≡ 0 = ap (λ z. length (lines_of z)) c.in_default.ensures ∙ ap length no_lines in
     record { value = omega (arith, none, c.loop-line.invariant.0); few = omega (arith, c.loop-line.invariant.1) }

@@ -13,10 +13,10 @@ joined {b} {c} {t} {k} b' j' p e f q = placed_more p (subst (λ n. Placed b n t 
 
 pub returns : goal.returns
 returns c =
-    let at_answer : Result Span Fault → Type 0 = λ r. Placed c.args.out.now c.args.at (answer_text r ++ (10 ∷ [])) c.put-byte.new.out c.put-byte.result in
+    let at_answer : Result Span Fault → Type 0 = λ r. Placed c.args.out.now c.args.at (answer_text r ++ (10 ∷ [])) c.put_byte.new.out c.put_byte.result in
     elim c.match-answer.branch [
-      | in-Ok w ↦ subst at_answer (sym w.in-Ok.is) (joined c.match-answer.out c.match-answer.end w.put-span-end.ensures w.out-is w.end-is c.put-byte.ensures)
+      | in-Ok w ↦ subst at_answer (sym w.in-Ok.is) (joined c.match-answer.out c.match-answer.end w.put_span-end.ensures w.out-is w.end-is c.put_byte.ensures)
       | in-Err w ↦ subst at_answer (sym w.in-Err.is)
-          (subst (λ t. Placed c.args.out.now c.args.at (refusal_text t ++ (10 ∷ [])) c.put-byte.new.out c.put-byte.result) w.told.ensures.value
-          (joined c.match-answer.out c.match-answer.end w.put-refusal-end.ensures w.out-is w.end-is c.put-byte.ensures))
+          (subst (λ t. Placed c.args.out.now c.args.at (refusal_text t ++ (10 ∷ [])) c.put_byte.new.out c.put_byte.result) w.told.ensures.value
+          (joined c.match-answer.out c.match-answer.end w.put_refusal-end.ensures w.out-is w.end-is c.put_byte.ensures))
     ]

@@ -8,4 +8,4 @@ returns-then-micros-eq0 c = placed_onward (rw (seconds_none c.args.micros c.if-m
 pub returns : goal.returns
 returns c =
     placed_onward (rw (seconds_some c.args.micros c.if-micros-eq0.false, ← c.from.ensures)
-    (placed_more (placed_more c.put-number-point.ensures c.put-point-letter.ensures) c.put-byte.ensures))
+    (placed_more (placed_more c.put_number-point.ensures c.put_point-letter.ensures) c.put_byte.ensures))

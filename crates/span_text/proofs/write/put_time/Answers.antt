@@ -6,4 +6,4 @@ pub returns-then-micros-eq0 : goal.returns-then-micros-eq0
 returns-then-micros-eq0 c = rw (time_none c.args.micros c.if-micros-eq0.true) (placed_none _ _)
 
 pub returns : goal.returns
-returns c = rw (time_some c.args.micros c.if-micros-eq0.false) c.put-clock.ensures
+returns c = rw (time_some c.args.micros c.if-micros-eq0.false) c.put_clock.ensures

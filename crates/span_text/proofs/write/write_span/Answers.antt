@@ -3,4 +3,4 @@ use Rattle.span_text.proofs.Endings.{written}
 use Rattle.span_text.proofs.write.write_span.Goals as goal
 
 pub returns : goal.returns
-returns c = written c.args.span.now (sym c.in-default.ensures.value) (omega arith) c.put-span.ensures
+returns c = written c.args.span.now (sym c.in_default.ensures.value) (omega arith) c.put_span.ensures

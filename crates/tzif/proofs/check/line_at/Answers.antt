@@ -5,6 +5,6 @@ use Rattle.tzif.proofs.check.line_at.Goals as goal
 
 pub returns : goal.returns
 returns c = record {
-  value = c.line-length.ensures.value ∙ ap line_length (between_to_end c.args.file.now c.args.at (length c.args.file.now) (omega arith));
+  value = c.line_length.ensures.value ∙ ap line_length (between_to_end c.args.file.now c.args.at (length c.args.file.now) (omega arith));
   near = search rules;
 }

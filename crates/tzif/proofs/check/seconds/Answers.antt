@@ -4,13 +4,13 @@ use Rattle.tzif.specs.File.{rising_at}
 use Rattle.tzif.proofs.Judging.{each_more, each_stop}
 use Rattle.tzif.proofs.check.seconds.Goals as goal
 
-pub returns-in-err-rising-at : goal.returns-in-err-rising-at
-returns-in-err-rising-at c =
-    let p = err_from_is_err_and c.from-residual.result c.from-residual.ensures.1 in
-    let e = each_stop c.args.file.now (rising_at c.args.file.now c.args.block) c.args.count c.loop-k.k c.loop-k-test.true c.in-err-rising-at.ensures.wrong in
+pub returns-in_err-rising_at : goal.returns-in_err-rising_at
+returns-in_err-rising_at c =
+    let p = err_from_is_err_and c.from_residual.result c.from_residual.ensures.1 in
+    let e = each_stop c.args.file.now (rising_at c.args.file.now c.args.block) c.args.count c.loop-k.k c.loop-k-test.true c.in_err-rising_at.ensures.wrong in
     rw (p.1, p.2) (record { wrong = sym (c.loop-k.invariant.1 ∙ e); near = tt })
 
 pub loop-k-preserved : goal.loop-k-preserved
 loop-k-preserved c =
-    let e = each_more c.args.file.now (rising_at c.args.file.now c.args.block) c.args.count c.loop-k.k c.loop-k-test.true c.in-ok-rising-at.ensures.wrong in
+    let e = each_more c.args.file.now (rising_at c.args.file.now c.args.block) c.args.count c.loop-k.k c.loop-k-test.true c.in_ok-rising_at.ensures.wrong in
     (search rules, c.loop-k.invariant.1 ∙ e)

@@ -3,23 +3,23 @@ use Rattle.std.proofs.lemmas.Int.{ints, to_z-of_z}
 use Rattle.years.proofs.Daily.{dated, not_dateless}
 use Rattle.years.proofs.days.date_of_day.Goals as goal
 
-pub days-since-start-rest-requires : goal.days-since-start-rest-requires
-days-since-start-rest-requires g c =
-    let a = c.in-ok-number.ensures in
+pub days_since_start-rest-requires : goal.days_since_start-rest-requires
+days_since_start-rest-requires g c =
+    let a = c.in_ok-number.ensures in
     let high = a.0.high in
     let low = a.1.low in
     let st = a.2.starts in
     (omega (arith, ints), high)
 
-pub returns-in-err-month : goal.returns-in-err-month
-returns-in-err-month g c =
-    let a = c.in-ok-number.ensures in
-    not_dateless _ _ _ _ _ (g.met.R.YearRule.fitting c.args.rule.now) c.args.day c.days-since-start-rest.result c.in-ok-number.number c.in-ok-number.year
-    a.0 a.1 a.2 c.days-since-start-rest.ensures c.in-err-month.ensures _ c.from-residual-in-err-month.ensures
+pub returns-in_err-month : goal.returns-in_err-month
+returns-in_err-month g c =
+    let a = c.in_ok-number.ensures in
+    not_dateless _ _ _ _ _ (g.met.R.YearRule.fitting c.args.rule.now) c.args.day c.days_since_start-rest.result c.in_ok-number.number c.in_ok-number.year
+    a.0 a.1 a.2 c.days_since_start-rest.ensures c.in_err-month.ensures _ c.from_residual-in_err-month.ensures
 
 pub returns : goal.returns
 returns g c =
     let fy : SFits w32 c.in_ok-number.number = search rules in
     let a = c.in_ok-number.ensures in
-    dated _ _ _ _ _ (g.met.R.YearRule.fitting c.args.rule.now) c.args.day c.days-since-start-rest.result c.in_ok-number.number c.in_ok-number.year
-    a.0 a.1 a.2 c.days-since-start-rest.ensures c.in-ok-month.month c.in-ok-month.day _ (to_z-of_z w32 _ fy) c.in-ok-month.ensures
+    dated _ _ _ _ _ (g.met.R.YearRule.fitting c.args.rule.now) c.args.day c.days_since_start-rest.result c.in_ok-number.number c.in_ok-number.year
+    a.0 a.1 a.2 c.days_since_start-rest.ensures c.in_ok-month.month c.in_ok-month.day _ (to_z-of_z w32 _ fy) c.in_ok-month.ensures

@@ -3,17 +3,17 @@ use Rattle.std.proofs.lemmas.Int.{ints, to_z-of_z}
 use Rattle.years.proofs.Daily.{turn_before, turn_after, stay, placed, some_near}
 use Rattle.years.proofs.days.year_of_day.Goals as goal
 
-pub returns-in-err-near : goal.returns-in-err-near
-returns-in-err-near g c =
-    let fy : SFits w32 c.near-year-guess.result = search rules in
-    some_near _ _ _ _ _ (g.met.R.YearRule.fitting c.args.rule.now) c.args.day c.near-year-guess.result _ (to_z-of_z w32 _ fy) c.near-year-guess.ensures c.in-err-near.ensures _ c.from-residual.ensures
+pub returns-in_err-near : goal.returns-in_err-near
+returns-in_err-near g c =
+    let fy : SFits w32 c.near_year-guess.result = search rules in
+    some_near _ _ _ _ _ (g.met.R.YearRule.fitting c.args.rule.now) c.args.day c.near_year-guess.result _ (to_z-of_z w32 _ fy) c.near_year-guess.ensures c.in_err-near.ensures _ c.from_residual.ensures
 
 pub overflow-sub-guess : goal.overflow-sub-guess
 overflow-sub-guess g c =
     let f = g.met.R.YearRule.fitting c.args.rule.now in
     let near = f.near in
     let far = f.far in
-    let k = c.near-year-guess.ensures in
+    let k = c.near_year-guess.ensures in
     omega (arith, ints)
 
 pub overflow-add-guess : goal.overflow-add-guess
@@ -21,42 +21,42 @@ overflow-add-guess g c =
     let f = g.met.R.YearRule.fitting c.args.rule.now in
     let near = f.near in
     let far = f.far in
-    let k = c.near-year-guess.ensures in
+    let k = c.near_year-guess.ensures in
     omega (arith, ints)
 
 -- the year before, where the guessed one starts after the day
-pub returns-then-starts-after : goal.returns-then-starts-after
-returns-then-starts-after g c =
-    let fy : SFits w32 c.near-year-guess.result = search rules in
+pub returns-then-starts_after : goal.returns-then-starts_after
+returns-then-starts_after g c =
+    let fy : SFits w32 c.near_year-guess.result = search rules in
     let f = g.met.R.YearRule.fitting c.args.rule.now in
-    let k = c.near-year-guess.ensures in
-    let z : to_z w32 (of_z w32 (to_z w32 (of_z w32 c.near-year-guess.result) -ℤ pos 1)) ≡ c.near-year-guess.result -ℤ pos 1 =
+    let k = c.near_year-guess.ensures in
+    let z : to_z w32 (of_z w32 (to_z w32 (of_z w32 c.near_year-guess.result) -ℤ pos 1)) ≡ c.near_year-guess.result -ℤ pos 1 =
     let near = f.near in let far = f.far in omega (arith, ints) in
-    let r = c.in-range.ensures.0 c.if-not-in-range.false in
+    let r = c.in_range.ensures.0 c.if-not-in_range.false in
     placed _ _ _ _ _ f c.args.day _ _ r z
-    (turn_before _ _ _ _ _ f c.args.day c.near-year-guess.result _ c.in-ok-near.near k r (to_z-of_z w32 _ fy) c.in-ok-near.ensures _ c.starts-after.ensures c.if-starts-after.true)
+    (turn_before _ _ _ _ _ f c.args.day c.near_year-guess.result _ c.in_ok-near.near k r (to_z-of_z w32 _ fy) c.in_ok-near.ensures _ c.starts_after.ensures c.if-starts_after.true)
     _ c.labelled.ensures
 
 -- the year after, where the guessed one is over
-pub returns-then-ends-by : goal.returns-then-ends-by
-returns-then-ends-by g c =
-    let fy : SFits w32 c.near-year-guess.result = search rules in
+pub returns-then-ends_by : goal.returns-then-ends_by
+returns-then-ends_by g c =
+    let fy : SFits w32 c.near_year-guess.result = search rules in
     let f = g.met.R.YearRule.fitting c.args.rule.now in
-    let k = c.near-year-guess.ensures in
-    let z : to_z w32 (of_z w32 (to_z w32 (of_z w32 c.near-year-guess.result) +ℤ pos 1)) ≡ c.near-year-guess.result +ℤ pos 1 =
+    let k = c.near_year-guess.ensures in
+    let z : to_z w32 (of_z w32 (to_z w32 (of_z w32 c.near_year-guess.result) +ℤ pos 1)) ≡ c.near_year-guess.result +ℤ pos 1 =
     let near = f.near in let far = f.far in omega (arith, ints) in
-    let r = c.in-range.ensures.0 c.if-not-in-range.false in
+    let r = c.in_range.ensures.0 c.if-not-in_range.false in
     placed _ _ _ _ _ f c.args.day _ _ r z
-    (turn_after _ _ _ _ _ f c.args.day c.near-year-guess.result _ c.in-ok-near.near k r (to_z-of_z w32 _ fy) c.in-ok-near.ensures _ c.ends-by.ensures c.if-ends-by.true)
-    _ c.labelled-then-ends-by.ensures
+    (turn_after _ _ _ _ _ f c.args.day c.near_year-guess.result _ c.in_ok-near.near k r (to_z-of_z w32 _ fy) c.in_ok-near.ensures _ c.ends_by.ensures c.if-ends_by.true)
+    _ c.labelled-then-ends_by.ensures
 
 pub returns : goal.returns
 returns g c =
     let fy : SFits w32 c.near_year-guess.result = search rules in
     let r = c.in_range.ensures.0 c.if-not-in_range.false in
-    let a = c.in-ok-near.ensures in (
+    let a = c.in_ok-near.ensures in (
       r,
-      stay _ _ _ _ _ (g.met.R.YearRule.fitting c.args.rule.now) c.args.day c.near_year-guess.result _ c.in-ok-near.near c.near_year-guess.ensures r (to_z-of_z w32 _ fy) a
-          _ _ c.starts-after.ensures c.if-starts-after.false c.ends-by.ensures c.if-ends-by.false,
+      stay _ _ _ _ _ (g.met.R.YearRule.fitting c.args.rule.now) c.args.day c.near_year-guess.result _ c.in_ok-near.near c.near_year-guess.ensures r (to_z-of_z w32 _ fy) a
+          _ _ c.starts_after.ensures c.if-starts_after.false c.ends_by.ensures c.if-ends_by.false,
       a.2,
     )

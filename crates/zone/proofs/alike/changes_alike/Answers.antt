@@ -7,4 +7,4 @@ returns g c =
     change_decided (g.P.ZoneSource.zones c.args.first.now) (g.Q.ZoneSource.zones c.args.second.now) c.args.zone c.args.after c.args.before c.change.result c.change-2.result _
     (simp (to_z-of_z, c.ranges.after, c.ranges.before) at c.change.ensures)
     (simp (to_z-of_z, c.ranges.after, c.ranges.before) at c.change-2.ensures)
-    c.is-same-second.ensures
+    c.is_same_second.ensures

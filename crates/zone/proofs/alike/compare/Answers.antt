@@ -8,15 +8,15 @@ pub returns-in-Find : goal.returns-in-Find
 returns-in-Find g c =
     let y = g.P.ZoneSource.zones c.args.first.now in
     let z = g.Q.ZoneSource.zones c.args.second.now in
-    subst (λ (q : Question). Decides c.numbers-alike.result (Alike y z q)) (sym c.in-Find.is) c.numbers-alike.ensures
+    subst (λ (q : Question). Decides c.numbers_alike.result (Alike y z q)) (sym c.in-Find.is) c.numbers_alike.ensures
 
 pub returns-in-Value : goal.returns-in-Value
 returns-in-Value g c =
     let at : to_z w64 (of_z w64 c.in-Value.at) ≡ c.in-Value.at = omega (arith, ints) in
     let y = g.P.ZoneSource.zones c.args.first.now in
     let z = g.Q.ZoneSource.zones c.args.second.now in
-    subst (λ (q : Question). Decides c.values-alike.result (Alike y z q)) (sym c.in-Value.is)
-    (subst (λ (s : ℤ). Decides c.values-alike.result (AlikeValue y z c.in-Value.zone s)) at c.values-alike.ensures)
+    subst (λ (q : Question). Decides c.values_alike.result (Alike y z q)) (sym c.in-Value.is)
+    (subst (λ (s : ℤ). Decides c.values_alike.result (AlikeValue y z c.in-Value.zone s)) at c.values_alike.ensures)
 
 pub returns-in-Change : goal.returns-in-Change
 returns-in-Change g c =
@@ -24,6 +24,6 @@ returns-in-Change g c =
     let before : to_z w64 (of_z w64 c.in-Change.before) ≡ c.in-Change.before = omega (arith, ints) in
     let y = g.P.ZoneSource.zones c.args.first.now in
     let z = g.Q.ZoneSource.zones c.args.second.now in
-    subst (λ (q : Question). Decides c.changes-alike.result (Alike y z q)) (sym c.in-Change.is)
-    (subst (λ (s : ℤ). Decides c.changes-alike.result (AlikeChange y z c.in-Change.zone c.in-Change.after s)) before
-    (subst (λ (s : ℤ). Decides c.changes-alike.result (AlikeChange y z c.in-Change.zone s (to_z w64 (of_z w64 c.in-Change.before)))) after c.changes-alike.ensures))
+    subst (λ (q : Question). Decides c.changes_alike.result (Alike y z q)) (sym c.in-Change.is)
+    (subst (λ (s : ℤ). Decides c.changes_alike.result (AlikeChange y z c.in-Change.zone c.in-Change.after s)) before
+    (subst (λ (s : ℤ). Decides c.changes_alike.result (AlikeChange y z c.in-Change.zone s (to_z w64 (of_z w64 c.in-Change.before)))) after c.changes_alike.ensures))

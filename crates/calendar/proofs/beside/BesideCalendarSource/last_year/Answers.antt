@@ -4,11 +4,11 @@ use Rattle.calendar.proofs.beside.BesideCalendarSource.last_year.Goals as goal
 
 pub returns-in-First : goal.returns-in-First
 returns-in-First g c =
-    c.last-year.ensures ∙ first_asked (g.P.CalendarSource.calendars c.args.self.now.first) (g.Q.CalendarSource.calendars c.args.self.now.second) (λ _. true) (λ c'. c'.last) c.args.calendar c.in-First.k c.in-First.ensures
+    c.last_year.ensures ∙ first_asked (g.P.CalendarSource.calendars c.args.self.now.first) (g.Q.CalendarSource.calendars c.args.self.now.second) (λ _. true) (λ c'. c'.last) c.args.calendar c.in-First.k c.in-First.ensures
 
 pub returns-in-Second : goal.returns-in-Second
 returns-in-Second g c =
-    c.last-year-in-Second.ensures ∙ second_asked (g.P.CalendarSource.calendars c.args.self.now.first) (g.Q.CalendarSource.calendars c.args.self.now.second) (λ _. true) (λ c'. c'.last) c.args.calendar c.in-Second.k c.in-Second.ensures
+    c.last_year-in-Second.ensures ∙ second_asked (g.P.CalendarSource.calendars c.args.self.now.first) (g.Q.CalendarSource.calendars c.args.self.now.second) (λ _. true) (λ c'. c'.last) c.args.calendar c.in-Second.k c.in-Second.ensures
 
 pub returns-in-Neither : goal.returns-in-Neither
 returns-in-Neither g c = neither_asked (g.P.CalendarSource.calendars c.args.self.now.first) (g.Q.CalendarSource.calendars c.args.self.now.second) (λ _. true) (λ c'. c'.last) c.args.calendar c.in-Neither.ensures

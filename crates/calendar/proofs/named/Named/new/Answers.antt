@@ -3,7 +3,7 @@ use Rattle.std.proofs.lemmas.List.{take_at}
 use Rattle.std.proofs.lemmas.Bool.{le-leb, lt-leb}
 use Rattle.calendar.specs.Namings.{held_name}
 use Rattle.calendar.proofs.named.Named.new.Goals as goal
-use Rattle.calendar.proofs.named.Named.new.Goals.{then-name-le-CALENDAR-NAME-LIMIT, else-name-le-CALENDAR-NAME-LIMIT}
+use Rattle.calendar.proofs.named.Named.new.Goals.{then-name-le-CALENDAR_NAME_LIMIT, else-name-le-CALENDAR_NAME_LIMIT}
 
 held : (bytes copy rest name : List ℕ) (n : ℕ) → bytes ≡ copy ++ rest → copy ≡ name → n ≡ length name → length name ≤ 16 → take n bytes ≡ held_name name
 held bytes copy rest name n e f g h =
@@ -13,7 +13,7 @@ not_held : (bytes name : List ℕ) (n : ℕ) → n ≡ 0 → 16 < length name �
 not_held bytes name n e h = ap (λ k. take k bytes) e ∙ sym (ap (λ t. cond t name []) (lt-leb (length name) 16 h))
 
 pub returns : goal.returns
-returns c = elim c.if-name-le-CALENDAR-NAME-LIMIT.branch [
-  | then-name-le-CALENDAR-NAME-LIMIT w ↦ held _ _ _ c.args.name.now _ w.bytes-is w.copy-from-slice.ensures.after w.length-is w.if-name-le-CALENDAR-NAME-LIMIT.true
-  | else-name-le-CALENDAR-NAME-LIMIT w ↦ not_held _ c.args.name.now _ w.length-is w.if-name-le-CALENDAR-NAME-LIMIT.false
+returns c = elim c.if-name-le-CALENDAR_NAME_LIMIT.branch [
+  | then-name-le-CALENDAR_NAME_LIMIT w ↦ held _ _ _ c.args.name.now _ w.bytes-is w.copy_from_slice.ensures.after w.length-is w.if-name-le-CALENDAR_NAME_LIMIT.true
+  | else-name-le-CALENDAR_NAME_LIMIT w ↦ not_held _ c.args.name.now _ w.length-is w.if-name-le-CALENDAR_NAME_LIMIT.false
 ]

@@ -5,12 +5,12 @@ use Rattle.calendar.specs.Singles.{single_count}
 use Rattle.calendar.specs.SingleLaws.{none_one, some_one}
 use Rattle.calendar.proofs.single.SingleCalendarSource.date.Goals as goal
 
-pub returns-then-calendar-count-of : goal.returns-then-calendar-count-of
-returns-then-calendar-count-of g c =
-    let out : single_count (name_of c.args.self.now.name) ≤ c.args.calendar = omega (arith, c.count-of.ensures, c.if-calendar-count-of.true) in
+pub returns-then-calendar-count_of : goal.returns-then-calendar-count_of
+returns-then-calendar-count_of g c =
+    let out : single_count (name_of c.args.self.now.name) ≤ c.args.calendar = omega (arith, c.count_of.ensures, c.if-calendar-count_of.true) in
     none_one (g.R.YearRule.shape c.args.self.now.rule) (g.R.YearRule.start c.args.self.now.rule) (g.R.YearRule.first c.args.self.now.rule) (g.R.YearRule.past c.args.self.now.rule) (g.R.YearRule.origin c.args.self.now.rule) (g.R.YearRule.twin c.args.self.now.rule) (name_of c.args.self.now.name) c.args.calendar (λ _. leb 1 c.args.day && leb c.args.day last_day) (λ c'. c'.date c.args.day) out
 
 pub returns : goal.returns
 returns g c =
-    let there : c.args.calendar < single_count (name_of c.args.self.now.name) = omega (arith, c.count-of.ensures, c.if-calendar-count-of.false) in
-    c.date-of.ensures ∙ some_one (g.R.YearRule.shape c.args.self.now.rule) (g.R.YearRule.start c.args.self.now.rule) (g.R.YearRule.first c.args.self.now.rule) (g.R.YearRule.past c.args.self.now.rule) (g.R.YearRule.origin c.args.self.now.rule) (g.R.YearRule.twin c.args.self.now.rule) (name_of c.args.self.now.name) c.args.calendar (λ _. leb 1 c.args.day && leb c.args.day last_day) (λ c'. c'.date c.args.day) there
+    let there : c.args.calendar < single_count (name_of c.args.self.now.name) = omega (arith, c.count_of.ensures, c.if-calendar-count_of.false) in
+    c.date_of.ensures ∙ some_one (g.R.YearRule.shape c.args.self.now.rule) (g.R.YearRule.start c.args.self.now.rule) (g.R.YearRule.first c.args.self.now.rule) (g.R.YearRule.past c.args.self.now.rule) (g.R.YearRule.origin c.args.self.now.rule) (g.R.YearRule.twin c.args.self.now.rule) (name_of c.args.self.now.name) c.args.calendar (λ _. leb 1 c.args.day && leb c.args.day last_day) (λ c'. c'.date c.args.day) there

@@ -5,5 +5,5 @@ use Rattle.file_zone.proofs.file_rule.ZoneFileZoneRule.change.Goals as goal
 
 pub returns : goal.returns
 returns c =
-    file_change c.args.self.now.bytes.now c.args.after c.args.before c.change-between.result
-    (change_same c.args.self.now.bytes.now c.args.self.now.judged (grind (arith, to_z-of_z)) (grind (arith, to_z-of_z)) c.change-between.ensures)
+    file_change c.args.self.now.bytes.now c.args.after c.args.before c.change_between.result
+    (change_same c.args.self.now.bytes.now c.args.self.now.judged (grind (arith, to_z-of_z)) (grind (arith, to_z-of_z)) c.change_between.ensures)

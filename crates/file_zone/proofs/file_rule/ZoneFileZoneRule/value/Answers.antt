@@ -5,5 +5,5 @@ use Rattle.file_zone.proofs.file_rule.ZoneFileZoneRule.value.Goals as goal
 
 pub returns : goal.returns
 returns c =
-    c.value-at.ensures
+    c.value_at.ensures
     ∙ told_same c.args.self.now.bytes.now _ c.args.second c.args.self.now.judged (grind (arith, to_z-of_z))

@@ -5,7 +5,7 @@ use Rattle.planboard.proofs.board.Board.enter.Goals as goal
 
 pub returns : goal.returns
 returns c =
-    let said = c.in-ok-span.ensures in
+    let said = c.in_ok-span.ensures in
     record {
       answer = said.value;
       state = state_is (span_memory c.args.self.now) c.args.slot c.args.text.now _ _ said.value said.law c.put.ensures.state c.put.ensures.law;

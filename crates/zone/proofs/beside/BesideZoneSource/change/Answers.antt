@@ -9,14 +9,14 @@ returns-in-First g c =
     let a = g.P.ZoneSource.zones c.args.self.now.first in
     let b = g.Q.ZoneSource.zones c.args.self.now.second in
     let at = found_first a b c.args.zone c.in-First.k c.in-First.ensures in
-    change_like (deepened a) (joined a b) c.in-First.k c.args.zone at.there at.here c.args.after c.args.before c.deep-change.result at.zone (simp (to_z-of_z, c.ranges.after, c.ranges.before) at c.deep-change.ensures)
+    change_like (deepened a) (joined a b) c.in-First.k c.args.zone at.there at.here c.args.after c.args.before c.deep_change.result at.zone (simp (to_z-of_z, c.ranges.after, c.ranges.before) at c.deep_change.ensures)
 
 pub returns-in-Second : goal.returns-in-Second
 returns-in-Second g c =
     let a = g.P.ZoneSource.zones c.args.self.now.first in
     let b = g.Q.ZoneSource.zones c.args.self.now.second in
     let at = found_second a b c.args.zone c.in-Second.k c.in-Second.ensures in
-    change_like (deepened b) (joined a b) c.in-Second.k c.args.zone at.there at.here c.args.after c.args.before c.deep-change-in-Second.result at.zone (simp (to_z-of_z, c.ranges.after, c.ranges.before) at c.deep-change-in-Second.ensures)
+    change_like (deepened b) (joined a b) c.in-Second.k c.args.zone at.there at.here c.args.after c.args.before c.deep_change-in-Second.result at.zone (simp (to_z-of_z, c.ranges.after, c.ranges.before) at c.deep_change-in-Second.ensures)
 
 pub returns-in-Neither : goal.returns-in-Neither
 returns-in-Neither g c =

@@ -7,6 +7,6 @@ returns g c =
     let a = g.P.ZoneSource.zones c.args.self.now.first in
     let b = g.Q.ZoneSource.zones c.args.self.now.second in
     record {
-      value = c.count-both.ensures.value ∙ sym (counted a b);
-      laws = joined_laws a b c.count-both.ensures.first-laws c.count-both.ensures.second-laws;
+      value = c.count_both.ensures.value ∙ sym (counted a b);
+      laws = joined_laws a b c.count_both.ensures.first_laws c.count_both.ensures.second_laws;
     }

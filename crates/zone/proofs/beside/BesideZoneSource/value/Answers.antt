@@ -8,14 +8,14 @@ returns-in-First g c =
     let a = g.P.ZoneSource.zones c.args.self.now.first in
     let b = g.Q.ZoneSource.zones c.args.self.now.second in
     let at = found_first a b c.args.zone c.in-First.k c.in-First.ensures in
-    value_like (deepened a) (joined a b) c.in-First.k c.args.zone at.there at.here c.args.second c.deep-value.result at.zone (simp (to_z-of_z, c.ranges.second) at c.deep-value.ensures)
+    value_like (deepened a) (joined a b) c.in-First.k c.args.zone at.there at.here c.args.second c.deep_value.result at.zone (simp (to_z-of_z, c.ranges.second) at c.deep_value.ensures)
 
 pub returns-in-Second : goal.returns-in-Second
 returns-in-Second g c =
     let a = g.P.ZoneSource.zones c.args.self.now.first in
     let b = g.Q.ZoneSource.zones c.args.self.now.second in
     let at = found_second a b c.args.zone c.in-Second.k c.in-Second.ensures in
-    value_like (deepened b) (joined a b) c.in-Second.k c.args.zone at.there at.here c.args.second c.deep-value-in-Second.result at.zone (simp (to_z-of_z, c.ranges.second) at c.deep-value-in-Second.ensures)
+    value_like (deepened b) (joined a b) c.in-Second.k c.args.zone at.there at.here c.args.second c.deep_value-in-Second.result at.zone (simp (to_z-of_z, c.ranges.second) at c.deep_value-in-Second.ensures)
 
 pub returns-in-Neither : goal.returns-in-Neither
 returns-in-Neither g c =

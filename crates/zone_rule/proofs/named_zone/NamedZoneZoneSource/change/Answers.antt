@@ -4,10 +4,10 @@ use Rattle.names.specs.ZoneNamings.{zone_name_of}
 use Rattle.zone_rule.proofs.Holding.{out, change_is}
 use Rattle.zone_rule.proofs.named_zone.NamedZoneZoneSource.change.Goals as goal
 
-pub returns-then-zone-count-of : goal.returns-then-zone-count-of
-returns-then-zone-count-of g c =
-    let far = out (zone_name_of c.args.self.now.name) (g.R.ZoneRule.told c.args.self.now.rule) c.args.zone _ c.count-of.ensures c.if-zone-count-of.true in
+pub returns-then-zone-count_of : goal.returns-then-zone-count_of
+returns-then-zone-count_of g c =
+    let far = out (zone_name_of c.args.self.now.name) (g.R.ZoneRule.told c.args.self.now.rule) c.args.zone _ c.count_of.ensures c.if-zone-count_of.true in
     λ h. absurd (omega (arith, far, h))
 
 pub returns : goal.returns
-returns g c = change_is (zone_name_of c.args.self.now.name) (g.R.ZoneRule.told c.args.self.now.rule) c.args.zone _ c.count-of.ensures c.args.after c.args.before _ _ _ c.if-zone-count-of.false c.change.ensures (grind (arith, to_z-of_z)) (grind (arith, to_z-of_z))
+returns g c = change_is (zone_name_of c.args.self.now.name) (g.R.ZoneRule.told c.args.self.now.rule) c.args.zone _ c.count_of.ensures c.args.after c.args.before _ _ _ c.if-zone-count_of.false c.change.ensures (grind (arith, to_z-of_z)) (grind (arith, to_z-of_z))

@@ -4,6 +4,6 @@ use Rattle.zone_rule.proofs.named_zone.NamedZoneZoneSource.count.Goals as goal
 
 pub returns : goal.returns
 returns g c = record {
-  value = counted (zone_name_of c.args.self.now.name) (g.R.ZoneRule.told c.args.self.now.rule) _ c.count-of.ensures;
-  laws = named_laws (zone_name_of c.args.self.now.name) (g.R.ZoneRule.told c.args.self.now.rule) c.keeps-bounds.ensures;
+  value = counted (zone_name_of c.args.self.now.name) (g.R.ZoneRule.told c.args.self.now.rule) _ c.count_of.ensures;
+  laws = named_laws (zone_name_of c.args.self.now.name) (g.R.ZoneRule.told c.args.self.now.rule) c.keeps_bounds.ensures;
 }

@@ -11,6 +11,6 @@ returns-then-not-self c =
 pub returns : goal.returns
 returns c =
     let z = c.args.self.now in
-    steps_change z.first z.changes.now c.args.after c.args.before c.change-in.result
+    steps_change z.first z.changes.now c.args.after c.args.before c.change_in.result
     (sym z.judged ∙ c.if-not-self.false)
     (grind (arith, to_z-of_z))
