@@ -108,7 +108,7 @@ module _ (s : Shape) (start : ℤ → ℤ) (lo hi : ℤ) (o : Date) (f : Fitting
     highest = omega (arith, ints, f.far);
     starts = ap (λ (d : Date). d.year) first_date ∙ b.first;
     ends = last_year;
-    some_months = λ y low high. (f.filled.some-month y, f.few y);
+    some_months = λ y low high. (f.filled.some_month y, f.few y);
     some_days = λ y m low high one most. (f.filled.some_day y m one most, f.short y m);
     month_inside = λ n low high. let v = (there_is s start lo hi o f n (in_range n low high)).valid in (v.month_low, v.month_high);
     day_inside = λ n low high. let v = (there_is s start lo hi o f n (in_range n low high)).valid in (v.day_low, v.day_high);

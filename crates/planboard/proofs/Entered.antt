@@ -21,8 +21,8 @@ enterable t r s (past a b) h = let z : ◌≡◌ {A = ℕ} 0 1 = cc in absurd (o
 -- what passes the check can be entered
 checked_enterable : (spans : List (Option Span)) (slot : ℕ) (text : List ℕ) (s : Span) → EntryChecked spans slot text (Ok s) → Enterable s
 checked_enterable spans slot text s c = elim (cases_lt slot (slot_count 256 spans)) [
-  | inl on ↦ enterable text (Ok s) s (c.on-shelf on) refl
-  | inr off ↦ let e = c.off-shelf off in let z : ◌≡◌ {A = ℕ} 0 1 = cc in absurd (omega arith)
+  | inl on ↦ enterable text (Ok s) s (c.on_shelf on) refl
+  | inr off ↦ let e = c.off_shelf off in let z : ◌≡◌ {A = ℕ} 0 1 = cc in absurd (omega arith)
 ]
 
 module _ (spans : List (Option Span)) (slot : ℕ) (text : List ℕ) (s : Span) (after : List (Option Span))

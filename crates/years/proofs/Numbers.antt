@@ -116,7 +116,7 @@ module _ (s : Shape) (start : ℤ → ℤ) (lo hi : ℤ) (o : Date) (f : Fitting
   pub there_is : (n : ℕ) → InRange n → There s start lo hi (after s o (n - 1)) n
   there_is n r =
       let one = f.day_one in
-      let a = after_number s start lo hi f.adds o f.filled f.origin_valid f.origin_low f.origin-high (n - 1) (let l = f.last-day in omega (arith, ints)) in
+      let a = after_number s start lo hi f.adds o f.filled f.origin_valid f.origin_low f.origin_high (n - 1) (let l = f.last_day in omega (arith, ints)) in
       record { valid = after_valid s o f.filled f.origin_valid (n - 1); low = a.low; high = a.high; is = let i = a.is in omega (arith, ints) }
 
   pub there : (d : Date) (n : ℕ) → InRange n → d ≡ after s o (n - 1) → There s start lo hi d n

@@ -8,16 +8,16 @@ returns-in_err-near g c =
     let fy : SFits w32 c.near_year-guess.result = search rules in
     some_near _ _ _ _ _ (g.met.R.YearRule.fitting c.args.rule.now) c.args.day c.near_year-guess.result _ (to_z-of_z w32 _ fy) c.near_year-guess.ensures c.in_err-near.ensures _ c.from_residual.ensures
 
-pub overflow-sub-guess : goal.overflow-sub-guess
-overflow-sub-guess g c =
+pub overflow_sub-guess : goal.overflow_sub-guess
+overflow_sub-guess g c =
     let f = g.met.R.YearRule.fitting c.args.rule.now in
     let near = f.near in
     let far = f.far in
     let k = c.near_year-guess.ensures in
     omega (arith, ints)
 
-pub overflow-add-guess : goal.overflow-add-guess
-overflow-add-guess g c =
+pub overflow_add-guess : goal.overflow_add-guess
+overflow_add-guess g c =
     let f = g.met.R.YearRule.fitting c.args.rule.now in
     let near = f.near in
     let far = f.far in

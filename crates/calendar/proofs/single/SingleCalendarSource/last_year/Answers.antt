@@ -18,8 +18,8 @@ returns g c =
     let k : to_z w32 (of_z w32 (to_z w32 (of_z w32 c.past_year.result) -ℤ pos 1)) ≡ g.R.YearRule.past c.args.self.now.rule -ℤ pos 1 = omega (arith, ints, f.near, f.far, f.some) in
     ap Some k ∙ some_one (g.R.YearRule.shape c.args.self.now.rule) (g.R.YearRule.start c.args.self.now.rule) (g.R.YearRule.first c.args.self.now.rule) (g.R.YearRule.past c.args.self.now.rule) (g.R.YearRule.origin c.args.self.now.rule) (g.R.YearRule.twin c.args.self.now.rule) (name_of c.args.self.now.name) c.args.calendar (λ _. true) (λ c'. c'.last) there
 
-pub overflow-sub-result : goal.overflow-sub-result
-overflow-sub-result g c =
+pub overflow_sub-result : goal.overflow_sub-result
+overflow_sub-result g c =
     let e = c.past_year.ensures in
     let f = g.met.R.YearRule.fitting c.args.self.now.rule in
     omega (arith, ints, f.near, f.far, f.some)
