@@ -1,7 +1,7 @@
 -- What a calendar means: its years, their months, the months' lengths, and the date of each day number.
 use Rattle.std.specs.Prelude.{◌≡◌, ℕ, ◌+◌, ◌<◌, ◌≤◌, Bool, true, cond, ◌&&◌, List, ℤ, pos, negsuc, ◌+ℤ◌, ◌≤ℤ◌, is_ok, Some, None, Option, ◌≢◌, int_le, nat_le, nat_lt}
 use Rattle.std.specs.Option as options
-use Rattle.std.specs.Borrow.{MutBor}
+use Rattle.std.specs.Borrow.{Bor}
 use Rattle.names.specs.Scanning.{read_calendar_name}
 use Rattle.years.specs.declared.date.Date.{Date}
 
@@ -110,7 +110,7 @@ abbrev pub twin_of : Calendars → ℕ → ℤ → ℕ → ℤ → Option ℕ
 twin_of s k y m z = asked s k (λ c. month_there c y m && year_there c z) (λ c. c.twin y m z)
 
 -- the answer to the question for a number's name
-abbrev pub NameIs : Calendars → ℕ → Option (MutBor (List ℕ)) → Type 0
+abbrev pub NameIs : Calendars → ℕ → Option (Bor (List ℕ)) → Type 0
 NameIs s k r = options.MatchOption r (s.count ≤ k) (λ x. (k < s.count) × (x.now ≡ s.name k))
 
 -- the answer to the question for a name: the lowest number that bears it

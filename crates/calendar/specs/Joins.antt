@@ -2,7 +2,7 @@
 use Rattle.std.specs.Prelude.{◌≡◌, ℕ, ◌+◌, ◌-◌, ◌<◌, ◌≤◌, Bool, true, false, cond, ◌&&◌, ltb, ◌⊎◌, List, is_ok, Some, None, Option, nat_le, nat_lt}
 use Rattle.std.proofs.Math.Path.{refl}
 use Rattle.std.proofs.Common.{sym, ap, ◌∙◌, subst, inl, inr, arith}
-use Rattle.std.specs.Borrow.{MutBor}
+use Rattle.std.specs.Borrow.{Bor}
 use Rattle.std.proofs.lemmas.Bool.{ltb-true, ltb-false, lt-ltb, le-ltb, leb-true, leb-false, cases_lt}
 use Rattle.names.specs.Scanning.{read_calendar_name}
 use Rattle.years.specs.declared.date.Date.{Date}
@@ -146,11 +146,11 @@ module _ (a b : Calendars) where
     pub neither_asked : Neither ≡ place_of a b k → None ≡ asked (joined a b) k there answer
     neither_asked e = neither_at (λ c. cond (there c) (Some (answer c)) None) k e ∙ sym (asked_at (joined a b) k there answer)
 
-  pub first_named : (k j : ℕ) (r : Option (MutBor (List ℕ))) → First j ≡ place_of a b k → NameIs a j r → NameIs (joined a b) k r
+  pub first_named : (k j : ℕ) (r : Option (Bor (List ℕ))) → First j ≡ place_of a b k → NameIs a j r → NameIs (joined a b) k r
   first_named k j (Some x) e n = let p = first_is k j e in let l = low_count in (omega (arith, counted, p.1), n.1 ∙ (ap a.name p.0 ∙ sym (first_name k p.1)))
   first_named k j None e n = let p = first_is k j e in absurd (omega (arith, p.0, p.1))
 
-  pub second_named : (k j : ℕ) (r : Option (MutBor (List ℕ))) → Second j ≡ place_of a b k → NameIs b j r → NameIs (joined a b) k r
+  pub second_named : (k j : ℕ) (r : Option (Bor (List ℕ))) → Second j ≡ place_of a b k → NameIs b j r → NameIs (joined a b) k r
   second_named k j (Some x) e n = let p = second_is k j e in (omega (arith, counted, p.2), n.1 ∙ (ap b.name p.0 ∙ sym (second_name k p.1)))
   second_named k j None e n = let p = second_is k j e in absurd (omega (arith, p.0, second_there k p.1 p.2))
 

@@ -1,5 +1,5 @@
 -- Two lawful tables side by side are lawful, and a question goes to the table that has the number.
-use Rattle.std.proofs.Common.{◌≡◌, ℕ, ◌+◌, ◌-◌, ◌<◌, ◌≤◌, min, Bool, true, false, cond, ltb, ◌⊎◌, List, ℤ, ◌≤ℤ◌, is_ok, Some, None, Option, sym, refl, ap, ◌∙◌, subst, inl, inr, arith, MutBor}
+use Rattle.std.proofs.Common.{◌≡◌, ℕ, ◌+◌, ◌-◌, ◌<◌, ◌≤◌, min, Bool, true, false, cond, ltb, ◌⊎◌, List, ℤ, ◌≤ℤ◌, is_ok, Some, None, Option, sym, refl, ap, ◌∙◌, subst, inl, inr, arith, Bor}
 use Rattle.std.proofs.lemmas.Bool.{lt-ltb, le-ltb, cases_lt}
 use Rattle.names.specs.ZoneScanning.{read_zone_name}
 use Rattle.side_by_side.specs.declared.Place.TheVariants.{First, Second, Neither}
@@ -13,7 +13,7 @@ use Rattle.zone.specs.Joining.{deeper_of, deepened, joined}
 -- ── tables that tell the same of a zone answer alike ──
 
 module _ (y z : Zones) (j i : ℕ) (there : j < y.count) (here : i < z.count) where
-  pub name_like : (r : Option (MutBor (List ℕ))) → z.name i ≡ y.name j → NameIs y j r → NameIs z i r
+  pub name_like : (r : Option (Bor (List ℕ))) → z.name i ≡ y.name j → NameIs y j r → NameIs z i r
   name_like None e n = absurd (omega arith)
   name_like (Some x) e n = (here, n.1 ∙ sym e)
 

@@ -1,6 +1,6 @@
 -- What a table of zones means, what every table keeps, and what a source answers.
 use Rattle.std.specs.Prelude.{◌≡◌, ℕ, ◌<◌, ◌≤◌, Bool, true, false, List, ℤ, pos, negsuc, ◌-ℤ◌, ◌≤ℤ◌, ◌<ℤ◌, is_ok, Option, ◌≢◌}
-use Rattle.std.specs.Borrow.{MutBor}
+use Rattle.std.specs.Borrow.{Bor}
 use Rattle.std.specs.Option as options
 use Rattle.names.specs.ZoneScanning.{read_zone_name}
 use Rattle.zone.specs.declared.value.Value.{Value}
@@ -68,7 +68,7 @@ FirstChange f a b r = options.MatchOption r (Steady f a b) (λ s. FirstAt f a b 
 -- ── the answers of a source ──
 
 -- a number's name
-abbrev pub NameIs : Zones → ℕ → Option (MutBor (List ℕ)) → Type 0
+abbrev pub NameIs : Zones → ℕ → Option (Bor (List ℕ)) → Type 0
 NameIs z i r = options.MatchOption r (z.count ≤ i) (λ x. (i < z.count) × (x.now ≡ z.name i))
 
 -- the lowest number that bears a name

@@ -21,7 +21,7 @@ fn deeper(value: Value) -> Value
 
 // What a zone says of a second, as it is seen from one layer above.
 pub(crate) fn deep_value<Z: ZoneSource>(source: &Z, zone: usize, second: i64) -> Option<Value>
-    ensures { ValueIs (deepened (zones source.now)) zone second result }
+    ensures { ValueIs (deepened (Z.ZoneSource.zones source.now)) zone second result }
 {
     let value = source.value(zone, second)?;
     Some(deeper(value))
@@ -35,7 +35,7 @@ pub(crate) fn deep_change<Z: ZoneSource>(
     after: i64,
     before: i64,
 ) -> Option<i64>
-    ensures { ChangeIs (deepened (zones source.now)) zone after before result }
+    ensures { ChangeIs (deepened (Z.ZoneSource.zones source.now)) zone after before result }
 {
     let mut from = after;
     while let Some(s) = source.change(zone, from, before) {

@@ -7,7 +7,7 @@ use Rattle.zone.specs.declared.value.Value.TheVariants.{Offset, Blank}
 use Rattle.zone.specs.Offsets.{is_offset}
 use Rattle.zone.specs.Zones.{SoundValue, FirstAt, FirstChange}
 use Rattle.zone_rule.specs.declared.step.Step.{Step}
-use Rattle.zone_rule.specs.Steps.{offset_at, is_after, rising, change_in, alters_at, well_made, steps_tell}
+use Rattle.zone_rule.specs.Steps.{offset_at, is_after, rising, change_in, alters_at, is_well_made, steps_tell}
 
 -- a test with what it came to
 pub by_test : {P : Type 0} (b : Bool) → (b ≡ true → P) → (b ≡ false → P) → P
@@ -115,21 +115,21 @@ offsets_sound cs o s w r = let p = offset_within cs o s None w r in bounded _ p
 -- ── what a zone of steps tells ──
 
 module _ (o : ℤ) (cs : List Step) where
-  made_rising : well_made o cs ≡ true → rising None cs ≡ true
+  made_rising : is_well_made o cs ≡ true → rising None cs ≡ true
   made_rising w = and_right (is_offset o) _ (and_right (leb (length cs) 8) _ w)
 
-  made_first : well_made o cs ≡ true → is_offset o ≡ true
+  made_first : is_well_made o cs ≡ true → is_offset o ≡ true
   made_first w = and_left (is_offset o) (rising None cs) (and_right (leb (length cs) 8) _ w)
 
-  pub steps_change : (a b : ℤ) (q : Option ℤ) → well_made o cs ≡ true → q ≡ change_in o cs a b → FirstChange (steps_tell o cs) a b q
+  pub steps_change : (a b : ℤ) (q : Option ℤ) → is_well_made o cs ≡ true → q ≡ change_in o cs a b → FirstChange (steps_tell o cs) a b q
   steps_change a b q w e =
       let P : Bool → Type 0 = λ t. FirstChange (λ s. cond t (Offset (offset_at o cs s)) (Blank 1 0)) a b q in
       subst P (sym w) (offsets_change cs o a b q (made_rising w) e)
 
-  pub blank_change : (a b : ℤ) → well_made o cs ≡ false → FirstChange (steps_tell o cs) a b None
+  pub blank_change : (a b : ℤ) → is_well_made o cs ≡ false → FirstChange (steps_tell o cs) a b None
   blank_change a b w = λ t h k. rw w refl
 
   pub steps_sound : (s : ℤ) → SoundValue (steps_tell o cs s)
-  steps_sound s = by_test (well_made o cs)
+  steps_sound s = by_test (is_well_made o cs)
       (λ w. rw w (offsets_sound cs o s (made_first w) (made_rising w)))
       (λ w. rw w (omega arith, omega arith))

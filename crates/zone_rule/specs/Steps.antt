@@ -20,12 +20,12 @@ rising a [] = true
 rising a (c ∷ cs) = is_after a c.at && (is_offset c.offset && rising (Some c.at) cs)
 
 -- well made: at most 8 changes, rising, and every offset one that a zone may have
-abbrev pub well_made : ℤ → List Step → Bool
-well_made o cs = nat_le (length cs) 8 && (is_offset o && rising None cs)
+abbrev pub is_well_made : ℤ → List Step → Bool
+is_well_made o cs = nat_le (length cs) 8 && (is_offset o && rising None cs)
 
 -- what a zone of steps tells: blank throughout where it is badly made
 abbrev pub steps_tell : ℤ → List Step → Zone
-steps_tell o cs s = cond (well_made o cs) (Offset (offset_at o cs s)) (Blank 1 0)
+steps_tell o cs s = cond (is_well_made o cs) (Offset (offset_at o cs s)) (Blank 1 0)
 
 -- ── the first change, as it is found ──
 

@@ -1,6 +1,6 @@
 // The rule of a zone of steps.
 ghost use Rattle.std.specs.Prelude.{◌≡◌};
-ghost use Rattle.zone_rule.specs.Steps.{well_made, steps_tell};
+ghost use Rattle.zone_rule.specs.Steps.{is_well_made, steps_tell};
 ghost use Rattle.zone_rule.specs.Telling.{told_by};
 
 use crate::rule::ZoneRule;
@@ -14,7 +14,7 @@ use zone::value::Value;
 pub const STEPS_MOST: usize = 8;
 
 fn is_well_made(first: i32, changes: &[Step]) -> bool
-    ensures { result ≡ well_made first changes.now }
+    ensures { result ≡ is_well_made first changes.now }
 {
     changes.len() <= STEPS_MOST && is_offset(first) && rises(changes)
 }

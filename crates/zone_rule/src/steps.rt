@@ -1,6 +1,6 @@
 // A zone by a first offset and changes of it.
 ghost use Rattle.std.specs.Prelude.{◌≡◌};
-ghost use Rattle.zone_rule.specs.Steps.{well_made};
+ghost use Rattle.zone_rule.specs.Steps.{is_well_made};
 
 use crate::step::Step;
 
@@ -10,5 +10,5 @@ pub struct Steps<'a> {
     pub(crate) first: i32,
     pub(crate) changes: &'a [Step],
     pub(crate) well_made: bool,
-    ghost judged: { well_made ≡ well_made first changes.now },
+    ghost judged: { well_made ≡ is_well_made first changes.now },
 }

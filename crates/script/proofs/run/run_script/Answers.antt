@@ -11,9 +11,9 @@ loop-line-init c = (going_first _ _ _ (omega (arith, c.script_of-script.ensures.
 pub loop-line-preserved : goal.loop-line-preserved
 loop-line-preserved c =
     let cut = c.in-Some.ensures in
-    let put = subst (λ r. Placed c.loop-line.out c.loop-line.at (answer_text r ++ (10 ∷ [])) c.put_answer-at.new.out c.put_answer-at.result) c.call-line_answer.ensures.answer c.put_answer-at.ensures in (
-      going_on c.loop-line.invariant.0 c.in-Some.line.now c.in-Some.rest.now cut.0 cut.1 cut.2 _ c.call-line_answer.ensures.state _ _ put,
-      c.call-line_answer.ensures.lent ∙ c.loop-line.invariant.1,
+    let put = subst (λ r. Placed c.loop-line.out c.loop-line.at (answer_text r ++ (10 ∷ [])) c.put_answer-at.new.out c.put_answer-at.result) c.call_line-answer.ensures.answer c.put_answer-at.ensures in (
+      going_on c.loop-line.invariant.0 c.in-Some.line.now c.in-Some.rest.now cut.0 cut.1 cut.2 _ c.call_line-answer.ensures.state _ _ put,
+      c.call_line-answer.ensures.lent ∙ c.loop-line.invariant.1,
     )
 
 pub returns : goal.returns

@@ -9,7 +9,7 @@ returns-in-First g c =
 
 pub returns-in-Second : goal.returns-in-Second
 returns-in-Second g c =
-    c.date_in-Second.ensures ∙ second_asked (g.P.CalendarSource.calendars c.args.self.now.first) (g.Q.CalendarSource.calendars c.args.self.now.second) (λ _. leb 1 c.args.day && leb c.args.day last_day) (λ c'. c'.date c.args.day) c.args.calendar c.in-Second.k c.in-Second.ensures
+    c.date-in-Second.ensures ∙ second_asked (g.P.CalendarSource.calendars c.args.self.now.first) (g.Q.CalendarSource.calendars c.args.self.now.second) (λ _. leb 1 c.args.day && leb c.args.day last_day) (λ c'. c'.date c.args.day) c.args.calendar c.in-Second.k c.in-Second.ensures
 
 pub returns-in-Neither : goal.returns-in-Neither
 returns-in-Neither g c = neither_asked (g.P.CalendarSource.calendars c.args.self.now.first) (g.Q.CalendarSource.calendars c.args.self.now.second) (λ _. leb 1 c.args.day && leb c.args.day last_day) (λ c'. c'.date c.args.day) c.args.calendar c.in-Neither.ensures

@@ -12,7 +12,7 @@ returns-in-First g c =
 pub returns-in-Second : goal.returns-in-Second
 returns-in-Second g c =
     let fyear = c.ranges.year in
-    simp to_z-of_z at c.length_in-Second.ensures ∙ second_asked (g.P.CalendarSource.calendars c.args.self.now.first) (g.Q.CalendarSource.calendars c.args.self.now.second) (λ c'. month_there c' c.args.year c.args.month) (λ c'. c'.size c.args.year c.args.month) c.args.calendar c.in-Second.k c.in-Second.ensures
+    simp to_z-of_z at c.length-in-Second.ensures ∙ second_asked (g.P.CalendarSource.calendars c.args.self.now.first) (g.Q.CalendarSource.calendars c.args.self.now.second) (λ c'. month_there c' c.args.year c.args.month) (λ c'. c'.size c.args.year c.args.month) c.args.calendar c.in-Second.k c.in-Second.ensures
 
 pub returns-in-Neither : goal.returns-in-Neither
 returns-in-Neither g c = neither_asked (g.P.CalendarSource.calendars c.args.self.now.first) (g.Q.CalendarSource.calendars c.args.self.now.second) (λ c'. month_there c' c.args.year c.args.month) (λ c'. c'.size c.args.year c.args.month) c.args.calendar c.in-Neither.ensures

@@ -12,7 +12,7 @@ returns-in-First g c =
 pub returns-in-Second : goal.returns-in-Second
 returns-in-Second g c =
     let fyear = c.ranges.year in
-    simp to_z-of_z at c.months_in-Second.ensures ∙ second_asked (g.P.CalendarSource.calendars c.args.self.now.first) (g.Q.CalendarSource.calendars c.args.self.now.second) (λ c'. year_there c' c.args.year) (λ c'. c'.months c.args.year) c.args.calendar c.in-Second.k c.in-Second.ensures
+    simp to_z-of_z at c.months-in-Second.ensures ∙ second_asked (g.P.CalendarSource.calendars c.args.self.now.first) (g.Q.CalendarSource.calendars c.args.self.now.second) (λ c'. year_there c' c.args.year) (λ c'. c'.months c.args.year) c.args.calendar c.in-Second.k c.in-Second.ensures
 
 pub returns-in-Neither : goal.returns-in-Neither
 returns-in-Neither g c = neither_asked (g.P.CalendarSource.calendars c.args.self.now.first) (g.Q.CalendarSource.calendars c.args.self.now.second) (λ c'. year_there c' c.args.year) (λ c'. c'.months c.args.year) c.args.calendar c.in-Neither.ensures

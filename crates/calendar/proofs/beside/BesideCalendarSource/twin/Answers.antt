@@ -14,7 +14,7 @@ pub returns-in-Second : goal.returns-in-Second
 returns-in-Second g c =
     let fyear = c.ranges.year in
     let fother = c.ranges.other in
-    simp to_z-of_z at c.twin_in-Second.ensures ∙ second_asked (g.P.CalendarSource.calendars c.args.self.now.first) (g.Q.CalendarSource.calendars c.args.self.now.second) (λ c'. month_there c' c.args.year c.args.month && year_there c' c.args.other) (λ c'. c'.twin c.args.year c.args.month c.args.other) c.args.calendar c.in-Second.k c.in-Second.ensures
+    simp to_z-of_z at c.twin-in-Second.ensures ∙ second_asked (g.P.CalendarSource.calendars c.args.self.now.first) (g.Q.CalendarSource.calendars c.args.self.now.second) (λ c'. month_there c' c.args.year c.args.month && year_there c' c.args.other) (λ c'. c'.twin c.args.year c.args.month c.args.other) c.args.calendar c.in-Second.k c.in-Second.ensures
 
 pub returns-in-Neither : goal.returns-in-Neither
 returns-in-Neither g c = neither_asked (g.P.CalendarSource.calendars c.args.self.now.first) (g.Q.CalendarSource.calendars c.args.self.now.second) (λ c'. month_there c' c.args.year c.args.month && year_there c' c.args.other) (λ c'. c'.twin c.args.year c.args.month c.args.other) c.args.calendar c.in-Neither.ensures

@@ -10,7 +10,7 @@ returns-then-there g c =
       answer = ap (λ n. ltb c.args.i n) c.len.ensures.value;
       state = set_written g.row.CAP c.args.self.now.slots.now c.args.i c.args.slot h;
       law = set_law g.row.CAP c.args.self.now.slots.now c.args.i c.args.slot h;
-      lent = refl {a = c.args.self.now.slots.name};
+      lent = refl {a = c.args.self.now.slots.ghost_name};
     }
 
 pub returns-else-there : goal.returns-else-there
@@ -20,5 +20,5 @@ returns-else-there g c =
       answer = ap (λ n. ltb c.args.i n) c.len.ensures.value;
       state = kept_written g.row.CAP c.args.self.now.slots.now c.args.i c.args.slot h;
       law = kept_law g.row.CAP c.args.self.now.slots.now c.args.i c.args.slot h;
-      lent = refl {a = c.args.self.now.slots.name};
+      lent = refl {a = c.args.self.now.slots.ghost_name};
     }
