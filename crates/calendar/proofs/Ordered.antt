@@ -1,11 +1,11 @@
 -- In every lawful calendar, days and their dates are ordered alike.
-use Rattle.std.proofs.Common.{◌≡◌, ℕ, zero, suc, ◌+◌, ◌<◌, ◌≤◌, Bool, true, false, cond, ltb, ◌⊎◌, Some, None, Option, sym, refl, ap, ◌∙◌, subst, inl, inr, add-one, arith}
+use Rattle.std.proofs.Common.{◌≡◌, ℕ, zero, suc, ◌+◌, ◌<◌, ◌≤◌, Bool, true, false, cond, ltb, Some, None, Option, sym, refl, ◌∙◌, subst, inl, inr, add-one, arith}
 use Rattle.std.proofs.lemmas.Bool.{cases_lt, cases_order, ltb-true, lt-ltb}
 use Rattle.years.specs.declared.date.Date.{Date}
 use Rattle.years.specs.Dates.{Shape, Before}
 use Rattle.years.proofs.Order.{before_trans, before_irrefl, next_later}
-use Rattle.calendar.specs.Calendars.{Calendar, CalendarLaws, Calendars, CalendarsLaws, last_day, next_date, day_of}
-use Rattle.calendar.specs.Orders.{HasDay, OrderIs}
+use Rattle.calendar.specs.Calendars.{Calendar, CalendarLaws, Calendars, CalendarsLaws, last_day, day_of}
+use Rattle.calendar.specs.Orders.{OrderIs}
 
 module _ (c : Calendar) (laws : CalendarLaws c) where
   abbrev shape : Shape

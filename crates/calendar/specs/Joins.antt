@@ -3,12 +3,11 @@ use Rattle.std.specs.Prelude.{◌≡◌, ℕ, ◌+◌, ◌-◌, ◌<◌, ◌≤�
 use Rattle.std.proofs.Math.Path.{refl}
 use Rattle.std.proofs.Common.{sym, ap, ◌∙◌, subst, inl, inr, arith}
 use Rattle.std.specs.Borrow.{Bor}
-use Rattle.std.proofs.lemmas.Bool.{ltb-true, ltb-false, lt-ltb, le-ltb, leb-true, leb-false, cases_lt}
+use Rattle.std.proofs.lemmas.Bool.{ltb-true, ltb-false, lt-ltb, le-ltb, leb-true, cases_lt}
 use Rattle.names.specs.Scanning.{read_calendar_name}
-use Rattle.years.specs.declared.date.Date.{Date}
 use Rattle.calendar.specs.declared.beside.Place.{Place}
 use Rattle.calendar.specs.declared.beside.Place.TheVariants.{First, Second, Neither}
-use Rattle.calendar.specs.Calendars.{Calendar, CalendarLaws, Calendars, CalendarsLaws, asked, day_of, NameIs}
+use Rattle.calendar.specs.Calendars.{Calendar, CalendarLaws, Calendars, CalendarsLaws, asked, NameIs}
 use Rattle.calendar.specs.Joining.{joined, joined_count, place_of}
 
 -- a question that a calendar answers itself

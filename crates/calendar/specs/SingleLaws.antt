@@ -1,7 +1,7 @@
 -- A calendar told by its years is lawful.
-use Rattle.std.specs.Prelude.{◌≡◌, ℕ, zero, suc, ◌+◌, ◌-◌, ◌<◌, ◌≤◌, Bool, true, false, cond, ◌&&◌, ltb, leb, List, ℤ, pos, negsuc, ◌+ℤ◌, ◌-ℤ◌, ◌≤ℤ◌, ◌<ℤ◌, is_ok, Some, None, Option, int_le, int_lt, nat_le, nat_lt, slice_index, unsigned_abs}
+use Rattle.std.specs.Prelude.{◌≡◌, ℕ, zero, suc, ◌+◌, ◌-◌, ◌<◌, ◌≤◌, Bool, true, false, cond, ◌&&◌, ltb, leb, List, ℤ, pos, ◌+ℤ◌, ◌-ℤ◌, ◌≤ℤ◌, ◌<ℤ◌, is_ok, Some, None, Option, int_le, int_lt, nat_le, nat_lt, slice_index, unsigned_abs}
 use Rattle.std.proofs.Math.Path.{refl, sym}
-use Rattle.std.proofs.Common.{ap, ◌∙◌, subst, inl, inr}
+use Rattle.std.proofs.Common.{ap, ◌∙◌}
 use native.Mathlib.Omega.{arith}
 use Rattle.std.proofs.lemmas.Int.{ints, by_lt_z}
 use Rattle.std.proofs.lemmas.Bool.{and_parts, and_from, leb-true, le-leb, lt-ltb, le-ltb}
@@ -10,9 +10,9 @@ use Rattle.years.specs.declared.date.Date.{Date}
 use Rattle.years.specs.Dates.{Shape, Valid, after, next, number}
 use Rattle.years.specs.declared.rule.Year.{Year}
 use Rattle.years.specs.Rules.{IsYear, YearAnswer, length_in}
-use Rattle.years.specs.Days.{Fitting, Bounded, Twins, InRange, DateAnswer, DayAnswer}
+use Rattle.years.specs.Days.{Fitting, Bounded, Twins, InRange, DayAnswer}
 use Rattle.years.proofs.Numbers.{There, there, there_is, found, start_rises, number_high}
-use Rattle.calendar.specs.Calendars.{Calendar, CalendarLaws, Calendars, CalendarsLaws, last_day, next_date, year_there, month_there, asked, day_of}
+use Rattle.calendar.specs.Calendars.{Calendar, CalendarLaws, CalendarsLaws, last_day, year_there, month_there, asked, day_of}
 use Rattle.calendar.specs.Singles.{valid_date, in_days, day_number, calendar_of, single, single_count}
 
 module _ (s : Shape) (start : ℤ → ℤ) (lo hi : ℤ) (o : Date) (f : Fitting s start lo hi o) (b : Bounded start lo hi o)

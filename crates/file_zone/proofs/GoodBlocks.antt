@@ -1,17 +1,15 @@
 -- The second block of a good file is good for a look-up.
-use Rattle.std.proofs.Common.{◌≡◌, ℕ, zero, suc, ◌+◌, ◌-◌, ◌*◌, ◌<◌, ◌≤◌, Bool, true, false, cond, ◌&&◌, ◌⊎◌, List, [], ◌∷◌, ◌++◌, length, get_or, take, drop, ℤ, ◌<ℤ◌, Some, None, Ok, Option, sym, refl, ap, ◌∙◌, subst, inl, inr, arith, length-drop, length-take, get_or-drop, get_or-take, w32, to_z}
-use lib.Signed.{lt_z}
+use Rattle.std.proofs.Common.{◌≡◌, ℕ, zero, suc, ◌+◌, ◌-◌, ◌*◌, ◌<◌, ◌≤◌, true, List, [], ◌∷◌, ◌++◌, length, get_or, take, drop, ℤ, ◌<ℤ◌, Ok, sym, refl, ap, ◌∙◌, subst, inl, inr, arith, length-drop, length-take, get_or-drop, get_or-take, w32, to_z}
 use Rattle.std.proofs.lemmas.Int.{ints}
 use Rattle.std.proofs.lemmas.Bool.{cases_lt}
 use Rattle.std.specs.List.{between}
-use Rattle.zone_rule.specs.declared.step.Step.{Step}
 use Rattle.zone.specs.Offsets.{is_offset}
 use Rattle.tzif.specs.declared.layout.Layout.{Layout}
 use Rattle.tzif.specs.Fields.{byte_at, number4, number8, offset4, second8}
-use Rattle.tzif.specs.File.{times, types, header_place, footer_place, layout_at, checked}
+use Rattle.tzif.specs.File.{times, types, header_place, footer_place, checked}
 use Rattle.tzif.proofs.Reading.{checked_ok}
 use Rattle.tzif.specs.Good.{Block, GoodAt}
-use Rattle.file_zone.specs.Blocks.{second_at, index_of, offset_of, steps_from, GoodBlock}
+use Rattle.file_zone.specs.Blocks.{second_at, index_of, offset_of, GoodBlock}
 use Rattle.file_zone.specs.Files.{part_of}
 
 -- what stands at place i of a part that starts at a stands at a + i

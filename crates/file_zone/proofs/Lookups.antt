@@ -1,5 +1,5 @@
 -- A search among rising seconds, and what it finds.
-use Rattle.std.proofs.Common.{◌≡◌, ℕ, zero, suc, ◌+◌, ◌-◌, ◌*◌, ◌<◌, ◌≤◌, Bool, true, false, cond, ◌⊎◌, List, [], ◌∷◌, ℤ, ◌≤ℤ◌, ◌<ℤ◌, Some, None, Option, sym, refl, ap, ◌∙◌, inl, inr, add-zero, add-one, arith}
+use Rattle.std.proofs.Common.{◌≡◌, ℕ, zero, suc, ◌+◌, ◌-◌, ◌<◌, ◌≤◌, true, false, List, [], ◌∷◌, ℤ, ◌≤ℤ◌, ◌<ℤ◌, Some, None, sym, refl, ap, ◌∙◌, inl, inr, add-zero, add-one, arith}
 use native.Mathlib.Nat.{sub-zero}
 use lib.Signed.{lt_z, le_z}
 use Rattle.std.proofs.lemmas.Int.{ints, by_lt_z}
@@ -7,7 +7,7 @@ use Rattle.std.proofs.lemmas.Bool.{cases_order}
 use Rattle.zone_rule.specs.declared.step.Step.{Step}
 use Rattle.zone_rule.specs.Steps.{offset_at, change_in, alters_at}
 use Rattle.zone_rule.proofs.Changes.{under, upon}
-use Rattle.file_zone.specs.Blocks.{second_at, index_of, offset_of, offset_after, steps_from, GoodBlock, Passed}
+use Rattle.file_zone.specs.Blocks.{second_at, index_of, offset_of, offset_after, steps_from, Passed}
 
 left : (n k : ℕ) → k < n → n - k ≡ suc (n - (k + 1))
 left n k h = omega arith

@@ -4,7 +4,6 @@ use Rattle.std.specs.List.{between}
 use Rattle.timebase.specs.declared.fault.Fault.{Fault}
 use Rattle.tzif.specs.declared.layout.Layout.{Layout}
 use Rattle.tzif.specs.File.{checked}
-use Rattle.zone.specs.declared.value.Value.{Value}
 use Rattle.zone.specs.declared.value.Value.TheVariants.{Offset, Blank}
 use Rattle.zone.specs.Zones.{Zone}
 use Rattle.zone_rule.specs.Steps.{offset_at, change_in}

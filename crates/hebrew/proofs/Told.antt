@@ -1,7 +1,6 @@
 -- What the code finds of a year is the year.
-use Rattle.std.proofs.Common.{◌≡◌, ℕ, zero, suc, ◌+◌, ◌-◌, ◌<◌, ◌≤◌, Bool, true, false, cond, List, [], ◌∷◌, get_or, ℤ, pos, ◌-ℤ◌, sym, refl, ap, ◌∙◌, subst, le_of_suc-le-suc, not-suc-le-zero, add-zero, add-suc, suc-add, arith}
+use Rattle.std.proofs.Common.{◌≡◌, ℕ, zero, suc, ◌+◌, ◌-◌, ◌<◌, ◌≤◌, Bool, true, false, List, [], ◌∷◌, get_or, pos, sym, ap, ◌∙◌, le_of_suc-le-suc, not-suc-le-zero, add-zero, add-suc, suc-add, arith}
 use Rattle.years.specs.declared.rule.Year.{Year}
-use Rattle.years.specs.Dates.{Shape, days_in}
 use Rattle.years.specs.Rules.{IsYear}
 use Rattle.hebrew.specs.Calendar.{elapsed, molad_day, postponed, new_year, corrected, year_start, leap, length_of_year, months_of, month_length, listed, lengths, hebrew, hebrew_start}
 use Rattle.hebrew.specs.Tishri.{days_right}

@@ -1,9 +1,9 @@
 -- The Hebrew years fit together, and a year is guessed from the mean year.
-use Rattle.std.specs.Prelude.{◌≡◌, ℕ, zero, suc, ◌+◌, ◌-◌, ◌*◌, ◌/◌, ◌%◌, ◌<◌, ◌≤◌, Bool, true, false, cond, ◌&&◌, ◌||◌, T, ℤ, pos, negsuc, ◌+ℤ◌, ◌-ℤ◌, ◌≤ℤ◌, ◌<ℤ◌, nat_le, unsigned_abs, refl}
-use Rattle.std.proofs.Common.{◌∙◌, ap, sym, subst, arith, leb→le}
+use Rattle.std.specs.Prelude.{◌≡◌, ℕ, zero, suc, ◌+◌, ◌-◌, ◌*◌, ◌/◌, ◌<◌, ◌≤◌, Bool, true, false, ◌&&◌, T, ℤ, pos, negsuc, ◌+ℤ◌, ◌-ℤ◌, ◌≤ℤ◌, ◌<ℤ◌, nat_le, unsigned_abs, refl}
+use Rattle.std.proofs.Common.{◌∙◌, ap, arith, leb→le}
 use Rattle.std.proofs.lemmas.Int.{ints}
 use Rattle.std.proofs.lemmas.Bool.Decides.{nat_tests}
-use Rattle.years.specs.Dates.{Shape, Valid, Filled, days_in, number, Adds}
+use Rattle.years.specs.Dates.{days_in, Adds}
 use Rattle.years.specs.Days.{Fitting, InRange, Near}
 use Rattle.hebrew.specs.Calendar.{new_year, year_start, leap, length_of_year, months_of, month_length, hebrew, hebrew_start, day_one}
 use Rattle.years.proofs.Guesses.{near_by}

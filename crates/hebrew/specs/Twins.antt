@@ -3,7 +3,6 @@ use Rattle.std.specs.Prelude.{◌≡◌, ℕ, ◌≤◌, Bool, true, false, ℤ,
 use Rattle.std.proofs.Common.{arith}
 use Rattle.std.proofs.lemmas.Bool.Decides.{nat_tests}
 use Rattle.std.proofs.lemmas.Int.{ints}
-use Rattle.years.specs.Dates.{Shape}
 use Rattle.years.specs.Days.{Bounded, Twins}
 use Rattle.hebrew.specs.Calendar.{leap, months_of, hebrew, hebrew_start, day_one, new_year, year_start, moved, twin}
 

@@ -1,10 +1,10 @@
 -- The Gregorian years fit together, and a year is guessed from the mean year.
-use Rattle.std.specs.Prelude.{◌≡◌, ℕ, zero, suc, ◌+◌, ◌-◌, ◌*◌, ◌/◌, ◌%◌, ◌<◌, ◌≤◌, Bool, true, false, cond, ◌&&◌, List, [], ◌∷◌, ℤ, pos, negsuc, ◌+ℤ◌, ◌-ℤ◌, ◌≤ℤ◌, ◌<ℤ◌, nat_le, slice_index, unsigned_abs, refl}
-use Rattle.std.proofs.Common.{◌∙◌, ap, sym, not-suc-le-zero, le_of_suc-le-suc, arith}
+use Rattle.std.specs.Prelude.{◌≡◌, ℕ, zero, suc, ◌+◌, ◌-◌, ◌*◌, ◌/◌, ◌<◌, ◌≤◌, Bool, true, false, ◌&&◌, List, [], ◌∷◌, ℤ, pos, negsuc, ◌+ℤ◌, ◌-ℤ◌, ◌≤ℤ◌, ◌<ℤ◌, nat_le, slice_index, unsigned_abs, refl}
+use Rattle.std.proofs.Common.{◌∙◌, ap, not-suc-le-zero, le_of_suc-le-suc, arith}
 use Rattle.std.proofs.lemmas.Int.{ints}
 use Rattle.std.proofs.lemmas.Bool.{leb-true, and_parts, false≢true}
 use Rattle.std.proofs.lemmas.Bool.Decides.{nat_tests}
-use Rattle.years.specs.Dates.{Shape, Adds}
+use Rattle.years.specs.Dates.{Adds}
 use Rattle.years.specs.Days.{Fitting, InRange, Near}
 use Rattle.iso8601.specs.Gregorian.{leap, february, lengths, gregorian, start_of, gregorian_start, first_of_january}
 use Rattle.years.proofs.Guesses.{near_by}

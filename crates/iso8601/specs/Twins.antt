@@ -2,7 +2,6 @@
 use Rattle.std.specs.Prelude.{◌≡◌, ℕ, ◌≤◌, ℤ, pos, refl}
 use Rattle.std.proofs.Common.{arith}
 use Rattle.std.proofs.lemmas.Int.{ints}
-use Rattle.years.specs.Dates.{Shape}
 use Rattle.years.specs.Days.{Bounded, Twins}
 use Rattle.iso8601.specs.Gregorian.{gregorian, gregorian_start, first_of_january, twin}
 

@@ -1,5 +1,5 @@
 -- Known days, computed: a date that is valid, lies in the calendar's years and has the number n is the date of day n.
-use Rattle.std.proofs.Common.{◌≡◌, ℕ, ◌+◌, ◌-◌, ◌≤◌, Bool, true, ◌&&◌, T, leb, ℤ, pos, sym, refl, arith, leb→le}
+use Rattle.std.proofs.Common.{◌≡◌, ℕ, ◌+◌, ◌-◌, ◌≤◌, Bool, ◌&&◌, T, leb, ℤ, pos, sym, refl, arith, leb→le}
 use Rattle.std.proofs.lemmas.Int.{ints}
 use Rattle.years.specs.declared.date.Date.{Date}
 use Rattle.years.specs.Dates.{Shape, after, number}
@@ -10,7 +10,7 @@ use Rattle.iso8601.specs.Proleptic.{gregorian_fits}
 use Rattle.hebrew.specs.Calendar.{hebrew, hebrew_start, day_one, year_start, new_year}
 use Rattle.hebrew.specs.Tables.{both_left, both_right}
 use Rattle.hebrew.specs.Tishri.{hebrew_fits}
-use Rattle.known_days.specs.Known.{dated, GregorianDay, HebrewDay, HebrewYear, GregorianDays, HebrewDays, KnownDays}
+use Rattle.known_days.specs.Known.{dated, GregorianDay, HebrewDay, GregorianDays, HebrewDays, KnownDays}
 
 -- numbers from one up to another
 abbrev from_to : ℕ → ℕ → ℕ → Bool

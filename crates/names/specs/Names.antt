@@ -1,5 +1,5 @@
 -- Names as they are written: runs of letters and digits, joined by `-`, which is byte 45.
-use Rattle.std.specs.Prelude.{◌≡◌, ℕ, ◌≤◌, ◌⊎◌, List, [], ◌∷◌}
+use Rattle.std.specs.Prelude.{ℕ, ◌≤◌, ◌⊎◌, List, [], ◌∷◌}
 use Rattle.names.specs.declared.InForm.{InForm}
 
 -- `A` to `Z`, `a` to `z`, `0` to `9`

@@ -1,10 +1,10 @@
 -- What entering a span's text does, by its definition.
-use Rattle.std.proofs.Common.{◌≡◌, ℕ, ◌<◌, ◌≤◌, List, Some, Ok, Err, Option, Result, refl, ap, ◌∙◌, subst, inl, inr, arith}
+use Rattle.std.proofs.Common.{◌≡◌, ℕ, List, Some, Ok, Option, Result, refl, ap, ◌∙◌, subst, inl, inr, arith}
 use Rattle.std.proofs.lemmas.Bool.{cases_lt}
 use Rattle.timebase.specs.declared.fault.Fault.{Fault}
 use Rattle.timebase.specs.declared.span.Span.{Span}
 use Rattle.timebase.specs.Spans.{Enterable}
-use Rattle.span_text.specs.Spans.{read_span, Answered}
+use Rattle.span_text.specs.Spans.{Answered}
 use Rattle.span_text.specs.Spans.Answered.{reads, unreadable, past}
 use Rattle.planboard.specs.Boards.{enter_answer, entered, entered_by, EntryChecked, Entering}
 use Rattle.planboard.specs.Laws.{OnlySlotChanged}

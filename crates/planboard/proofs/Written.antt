@@ -1,5 +1,5 @@
 -- A write to one slot changes nothing else.
-use Rattle.std.proofs.Common.{◌≡◌, ℕ, ◌<◌, ◌≤◌, min, List, length, get_or, take, set, None, Option, refl, ap, ◌∙◌, arith, length-set, length-take, get_or-set_other, get_or-set_same, drop-set-lt}
+use Rattle.std.proofs.Common.{◌≡◌, ℕ, ◌<◌, ◌≤◌, min, List, get_or, take, set, None, Option, refl, ap, ◌∙◌, arith, length-set, length-take, get_or-set_other, get_or-set_same, drop-set-lt}
 use lib.Seq.{take-set-lt}
 use Rattle.std.proofs.lemmas.Bool.{cond_below, cond_above}
 use Rattle.planboard.specs.Laws.{OnlySlotChanged}

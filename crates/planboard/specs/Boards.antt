@@ -1,5 +1,5 @@
 -- What the calls on a board answer, and what its memory holds after them.
-use Rattle.std.specs.Prelude.{◌≡◌, ℕ, ◌<◌, ◌≤◌, cond, List, Some, None, Ok, Err, Option, Result, nat_lt}
+use Rattle.std.specs.Prelude.{◌≡◌, ℕ, ◌<◌, ◌≤◌, cond, List, Some, Ok, Err, Option, Result, nat_lt}
 use Rattle.std.specs.Borrow.{GName}
 use Rattle.timebase.specs.declared.fault.Fault.{Fault}
 use Rattle.timebase.specs.declared.fault.Fault.TheVariants.{SlotOff}

@@ -1,10 +1,10 @@
 -- A reader by steps, each of whose states can still come to an end, stops where the text stops.
-use Rattle.std.proofs.Common.{◌≡◌, ℕ, ◌+◌, ◌-◌, ◌<◌, ◌≤◌, min, Bool, true, false, cond, ltb, ◌⊎◌, List, [], ◌∷◌, ◌++◌, length, get_or, take, drop, Some, None, Ok, Err, Option, Result, sym, refl, ap, ◌∙◌, subst, inl, inr, append_assoc, append-nil, arith, length-append, length-drop, length-take}
-use Rattle.std.proofs.lemmas.Bool.{cases_order, ltb-true, ltb-false}
-use Rattle.std.proofs.lemmas.List.{take_at, take-take, take_all, take-append-drop, take_rest}
+use Rattle.std.proofs.Common.{◌≡◌, ℕ, ◌+◌, ◌-◌, ◌<◌, Bool, true, false, cond, ltb, ◌⊎◌, List, [], ◌∷◌, ◌++◌, length, get_or, take, drop, Some, None, Ok, Err, Option, Result, sym, refl, ap, ◌∙◌, subst, inl, inr, append_assoc, append-nil, arith, length-append, length-drop, length-take}
+use Rattle.std.proofs.lemmas.Bool.{ltb-true, ltb-false}
+use Rattle.std.proofs.lemmas.List.{take_at, take_all, take_rest}
 use Rattle.std.specs.Option.{ok_or}
 use Rattle.reading.specs.Reading.{read_on, limited}
-use Rattle.reading.specs.Places.{Begins, Longest, Refused, Answers, AnswersWithin}
+use Rattle.reading.specs.Places.{Begins, Longest, Answers, AnswersWithin}
 
 -- ── values that differ in their constructor ──
 

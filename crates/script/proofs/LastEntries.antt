@@ -1,5 +1,5 @@
 -- After the lines, each slot holds what was entered there last.
-use Rattle.std.proofs.Common.{◌≡◌, ℕ, ◌<◌, Bool, true, false, cond, ltb, ◌⊎◌, List, [], ◌∷◌, ◌++◌, drop, Some, None, Ok, Err, Option, Result, sym, refl, ap, ◌∙◌, subst, inl, inr, arith}
+use Rattle.std.proofs.Common.{◌≡◌, ℕ, ◌<◌, Bool, true, false, cond, ltb, ◌⊎◌, List, [], ◌∷◌, drop, Some, Ok, Err, Option, Result, sym, refl, ap, ◌∙◌, subst, inl, inr, arith}
 use Rattle.std.proofs.lemmas.Bool.{cases_eq, ltb-true}
 use Rattle.timebase.specs.declared.fault.Fault.{Fault}
 use Rattle.timebase.specs.declared.fault.Fault.TheVariants.{SlotOff, Unreadable}
@@ -11,7 +11,7 @@ use Rattle.planboard.specs.Slots.{slot_count, slot_at, written}
 use Rattle.planboard.proofs.Written.{set_law, set_written}
 use Rattle.script.specs.declared.line.SpanLine.{SpanLine}
 use Rattle.script.specs.Scanning.{read_line}
-use Rattle.script.specs.Scripts.{line_answer, line_after, spans_after, Enters, NeverEntered, HoldsLast}
+use Rattle.script.specs.Scripts.{line_answer, line_after, spans_after, Enters, HoldsLast}
 use Rattle.script.specs.Scripts.HoldsLast.{never, by_line}
 
 clash : {A : Type 0} (f : Fault) (s : Span) → ◌≡◌ {A = Result Span Fault} (Err f) (Ok s) → A

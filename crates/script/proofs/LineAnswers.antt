@@ -1,5 +1,5 @@
 -- What reading a line answers, by its form.
-use Rattle.std.proofs.Common.{◌≡◌, ℕ, List, length, Result, sym, subst}
+use Rattle.std.proofs.Common.{◌≡◌, ℕ, List, Result, sym, subst}
 use Rattle.reading.specs.Reading.{read_on}
 use Rattle.reading.specs.Places.{AnswersWithin}
 use Rattle.reading.proofs.Machines.{answers, answers_within}

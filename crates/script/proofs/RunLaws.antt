@@ -1,10 +1,10 @@
 -- What running a script answers and leaves.
-use Rattle.std.proofs.Common.{◌≡◌, ℕ, ◌*◌, ◌≤◌, true, false, cond, ltb, List, [], length, take, drop, Ok, Err, Option, Result, sym, ap, ◌∙◌, subst}
+use Rattle.std.proofs.Common.{◌≡◌, ℕ, ◌*◌, ◌≤◌, false, ltb, List, [], length, take, Ok, Option, Result, sym, ap, subst}
 use Rattle.std.proofs.lemmas.Bool.{le-ltb}
 use Rattle.timebase.specs.declared.fault.Fault.{Fault}
 use Rattle.timebase.specs.declared.span.Span.{Span}
 use Rattle.planboard.specs.Slots.{slot_at}
-use Rattle.script.specs.Scripts.{lines_of, script_lines, room_of, spans_after, run_answer, run_out, run_spans, HoldsLast, RunKeeps}
+use Rattle.script.specs.Scripts.{lines_of, script_lines, room_of, run_answer, run_out, run_spans, HoldsLast, RunKeeps}
 use Rattle.script.proofs.Runs.{Ended, Going, going_end}
 use Rattle.script.proofs.LastEntries.{holds_last}
 

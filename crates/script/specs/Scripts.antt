@@ -1,5 +1,5 @@
 -- A whole script: its lines, the answer to each, and what the board holds after it.
-use Rattle.std.specs.Prelude.{◌≡◌, ℕ, suc, ◌+◌, ◌*◌, ◌<◌, ◌≤◌, cond, ◌⊎◌, List, [], ◌∷◌, ◌++◌, length, take, drop, Some, None, Ok, Err, codes, decimal, Option, Result, ◌==◌, nat_lt}
+use Rattle.std.specs.Prelude.{◌≡◌, ℕ, ◌*◌, cond, List, [], ◌∷◌, ◌++◌, length, take, drop, Some, Ok, Err, codes, decimal, Option, Result, ◌==◌, nat_lt}
 use Rattle.timebase.specs.declared.fault.Fault.{Fault}
 use Rattle.timebase.specs.declared.fault.Fault.TheVariants.{Unreadable, BufferSmall}
 use Rattle.timebase.specs.declared.fault.Told.{Told}
@@ -7,7 +7,7 @@ use Rattle.timebase.specs.declared.span.Span.{Span}
 use Rattle.timebase.specs.Faults.{told}
 use Rattle.span_text.specs.Canonical.{span_text}
 use Rattle.planboard.specs.Boards.{enter_answer, entered_by}
-use Rattle.planboard.specs.Slots.{slot_count, slot_at}
+use Rattle.planboard.specs.Slots.{slot_at}
 use Rattle.script.specs.declared.line.SpanLine.{SpanLine}
 use Rattle.script.specs.Scanning.{read_line}
 

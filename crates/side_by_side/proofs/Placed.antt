@@ -1,6 +1,6 @@
 -- Which table has a number.
 use Rattle.std.proofs.Common.{◌≡◌, ℕ, ◌+◌, ◌-◌, ◌<◌, ◌≤◌, Bool, true, false, cond, ltb, leb, ◌⊎◌, refl, inl, inr, arith}
-use Rattle.std.proofs.lemmas.Bool.{ltb-true, ltb-false, lt-ltb, le-ltb, leb-true, leb-false}
+use Rattle.std.proofs.lemmas.Bool.{ltb-true, ltb-false, lt-ltb, le-ltb, leb-true}
 use Rattle.side_by_side.specs.declared.Place.{Place}
 use Rattle.side_by_side.specs.declared.Place.TheVariants.{First, Second, Neither}
 use Rattle.side_by_side.specs.Places.{joined_count, place_of, at_place}

@@ -1,10 +1,9 @@
 -- The reader's answers, by the grammar.
-use Rattle.std.proofs.Common.{◌≡◌, ℕ, zero, suc, ◌+◌, ◌*◌, ◌<◌, ◌≤◌, Bool, true, false, cond, ltb, ◌⊎◌, List, ℤ, pos, neg_ℤ, nat_abs, ◌≤ℤ◌, Some, None, Ok, Err, Option, Result, sym, refl, ap, ◌∙◌, subst, inl, inr, arith}
+use Rattle.std.proofs.Common.{◌≡◌, ℕ, zero, suc, ◌≤◌, Bool, true, false, cond, ltb, ◌⊎◌, List, pos, nat_abs, ◌≤ℤ◌, Some, None, Ok, Err, Result, sym, refl, ◌∙◌, subst, inl, inr, arith}
 use Rattle.std.proofs.lemmas.Int.{ints}
 use Rattle.std.proofs.lemmas.Bool.{ltb-true, ltb-false}
 use Rattle.timebase.specs.declared.fault.Fault.{Fault}
 use Rattle.timebase.specs.declared.fault.Fault.TheVariants.{Unreadable, PastLimit}
-use Rattle.timebase.specs.declared.span.Part.{Part}
 use Rattle.timebase.specs.declared.span.Part.TheVariants.{Years, Months, Weeks, Days, Time}
 use Rattle.timebase.specs.declared.span.Span.{Span}
 use Rattle.timebase.specs.Spans.{part_limit, time_limit, NoneBelow, NoneAbove, Enterable}
@@ -13,7 +12,7 @@ use Rattle.reading.proofs.Machines.{answers}
 use Rattle.span_text.specs.declared.scan.Fields.{Fields}
 use Rattle.span_text.specs.Scanning.{start, stepped, ended, read_fields}
 use Rattle.span_text.specs.Grammar.{SpanText}
-use Rattle.span_text.specs.Spans.{time_of, signed, span_of, past_limit, limited_span, read_span, WithinLimits, FirstPast, Answered}
+use Rattle.span_text.specs.Spans.{time_of, signed, span_of, limited_span, read_span, WithinLimits, Answered}
 use Rattle.span_text.specs.Spans.Answered.{reads, unreadable, past}
 use Rattle.span_text.proofs.Live.{live}
 use Rattle.span_text.proofs.Sound.{sound}

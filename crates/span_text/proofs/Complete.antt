@@ -1,5 +1,5 @@
 -- Every text of the grammar is read, and says what it should.
-use Rattle.std.proofs.Common.{◌≡◌, ℕ, suc, ◌+◌, ◌-◌, ◌*◌, ◌^◌, ◌<◌, ◌≤◌, List, [], ◌∷◌, ◌++◌, length, Some, Ok, Result, sym, refl, ap, ◌∙◌, append_assoc, append-nil, zero-add, arith, length-append, rules}
+use Rattle.std.proofs.Common.{◌≡◌, ℕ, suc, ◌+◌, ◌-◌, ◌*◌, ◌^◌, ◌<◌, ◌≤◌, List, [], ◌∷◌, ◌++◌, length, Some, Ok, Result, sym, refl, ap, ◌∙◌, append_assoc, append-nil, arith, length-append, rules}
 use Rattle.std.proofs.lemmas.Bool.Decides.{nat_tests}
 use Rattle.reading.specs.Digits.{value_on, AllDigits, Digits}
 use Rattle.reading.specs.Reading.{read_on}
@@ -7,7 +7,7 @@ use Rattle.reading.proofs.Figures.{digit_more}
 use Rattle.reading.proofs.Machines.{go as go_on}
 use Rattle.span_text.specs.declared.scan.Designator.{Designator}
 use Rattle.span_text.specs.declared.scan.Designator.TheVariants.{Period, Years, Months, Weeks, Days, Time, Hours, Minutes, Seconds}
-use Rattle.span_text.specs.declared.scan.Stage.TheVariants.{Start, Signed, After, Number, Point, Fraction}
+use Rattle.span_text.specs.declared.scan.Stage.TheVariants.{After, Number, Point, Fraction}
 use Rattle.span_text.specs.declared.scan.Fields.{Fields}
 use Rattle.span_text.specs.declared.scan.Progress.{Progress}
 use Rattle.span_text.specs.Scanning.{rank_of, at, start, put, put_seconds, stepped, ended, read_fields}

@@ -1,5 +1,5 @@
 -- A span's text as a whole, and what writing it answers.
-use Rattle.std.proofs.Common.{◌≡◌, ℕ, ◌≤◌, Bool, true, false, ltb, List, ◌++◌, length, take, drop, nat_abs, Some, None, Ok, Err, codes, Option, Result, sym, ap, ◌∙◌, arith, length-append, length-drop}
+use Rattle.std.proofs.Common.{◌≡◌, ℕ, ◌≤◌, Bool, false, ltb, List, ◌++◌, length, take, drop, nat_abs, Some, None, Ok, Err, codes, Option, Result, sym, ap, ◌∙◌, arith, length-append, length-drop}
 use Rattle.std.proofs.lemmas.List.{take_at, drop_at}
 use Rattle.std.proofs.lemmas.Bool.{le-ltb}
 use Rattle.timebase.specs.Spans.{is_minus, wrong_part}

@@ -1,5 +1,5 @@
 -- Reading the canonical text of a span gives the span.
-use Rattle.std.proofs.Common.{◌≡◌, ℕ, zero, suc, ◌+◌, ◌*◌, ◌/◌, ◌%◌, ◌≤◌, Bool, true, false, eqb, ℤ, pos, negsuc, nat_abs, ◌≤ℤ◌, None, Ok, Err, sym, refl, ap, ◌∙◌, inl, inr, arith}
+use Rattle.std.proofs.Common.{◌≡◌, ℕ, zero, suc, ◌+◌, ◌*◌, ◌/◌, ◌%◌, ◌≤◌, Bool, true, false, eqb, ℤ, pos, negsuc, nat_abs, ◌≤ℤ◌, None, Ok, Err, refl, ap, ◌∙◌, inl, inr, arith}
 use native.Mathlib.Nat.{div-div-eq-div-mul}
 use Rattle.std.proofs.lemmas.Int.{ints}
 use Rattle.std.proofs.lemmas.Bool.{cases_Bool, and_parts, eqb-true, le-ltb}
@@ -7,7 +7,6 @@ use Rattle.timebase.specs.declared.fault.Fault.TheVariants.{Unreadable}
 use Rattle.timebase.specs.declared.span.Span.{Span}
 use Rattle.timebase.specs.Spans.{part_limit, time_limit, InLimits, NoneBelow, NoneAbove, Enterable, is_minus}
 use Rattle.timebase.proofs.Enterables.{none_below, below}
-use Rattle.span_text.specs.declared.scan.Fields.{Fields}
 use Rattle.span_text.specs.Canonical.{is_nought, span_text}
 use Rattle.span_text.specs.Grammar.{SpanText}
 use Rattle.span_text.specs.Spans.{time_of, signed, span_of, past_limit, limited_span, read_span}

@@ -7,7 +7,7 @@ use Rattle.reading.proofs.Figures.{value_push, length_push, digits_push, one_dig
 use Rattle.reading.proofs.Machines.{none_some, err_ok, cond_some, first_step}
 use Rattle.span_text.specs.declared.scan.Designator.{Designator}
 use Rattle.span_text.specs.declared.scan.Designator.TheVariants.{Period, Years, Months, Weeks, Days, Time, Hours, Minutes, Seconds}
-use Rattle.span_text.specs.declared.scan.Stage.TheVariants.{Start, Signed, After, Number, Point, Fraction}
+use Rattle.span_text.specs.declared.scan.Stage.TheVariants.{Signed, After, Number, Point, Fraction}
 use Rattle.span_text.specs.declared.scan.Fields.{Fields}
 use Rattle.span_text.specs.declared.scan.Progress.{Progress}
 use Rattle.span_text.specs.Scanning.{rank_of, at, unsaid, start, put, put_seconds, closing, after_designator, in_number, in_point, in_fraction, opened, stepped, ended, read_fields}

@@ -1,14 +1,14 @@
 -- The canonical text of a span is a text of the grammar.
-use Rattle.std.proofs.Common.{◌≡◌, ℕ, ◌+◌, ◌*◌, ◌/◌, ◌%◌, ◌^◌, ◌<◌, ◌≤◌, Bool, true, false, cond, ◌&&◌, eqb, ◌⊎◌, List, [], ◌∷◌, ◌++◌, nat_abs, codes, decimal, sym, refl, ap, ◌∙◌, subst, inl, inr, append_assoc, append-nil, arith}
+use Rattle.std.proofs.Common.{◌≡◌, ℕ, ◌/◌, ◌%◌, ◌^◌, ◌<◌, ◌≤◌, Bool, true, false, eqb, List, [], ◌∷◌, ◌++◌, nat_abs, decimal, sym, refl, ap, ◌∙◌, subst, inl, inr, append_assoc, append-nil, arith}
 use native.Mathlib.Nat.{div-div-eq-div-mul}
-use Rattle.std.proofs.lemmas.Bool.{cases_eq, cases_Bool, and_parts, and_from, eqb-true, eq-eqb, ne_eqb, both_ways}
+use Rattle.std.proofs.lemmas.Bool.{cases_eq, and_parts, and_from, eqb-true, eq-eqb, both_ways}
 use Rattle.timebase.specs.declared.span.Span.{Span}
 use Rattle.timebase.specs.Spans.{is_minus, InLimits}
 use Rattle.reading.specs.Digits.{Digits}
 use Rattle.writing.specs.Fractions.{fraction_digits, point_text}
 use Rattle.writing.proofs.FractionDigits.{point_none, point_some}
 use Rattle.span_text.specs.declared.scan.Designator.{Designator}
-use Rattle.span_text.specs.declared.scan.Designator.TheVariants.{Period, Years, Months, Weeks, Days, Time, Hours, Minutes, Seconds}
+use Rattle.span_text.specs.declared.scan.Designator.TheVariants.{Period, Time, Seconds}
 use Rattle.span_text.specs.declared.scan.Fields.{Fields}
 use Rattle.span_text.specs.Canonical.{part_text, seconds_text, clock_text, time_text, date_text, is_nought, sign_text, span_text}
 use Rattle.span_text.specs.Grammar.{micros_of, Closes, Spelt, SpanText}

@@ -1,12 +1,12 @@
 -- A span has no wrong part exactly where a text can enter it.
-use Rattle.std.proofs.Common.{◌≡◌, ℕ, ◌≤◌, Bool, true, false, cond, ◌&&◌, ◌||◌, ltb, ◌⊎◌, ℤ, pos, nat_abs, ◌≤ℤ◌, Some, None, Option, sym, refl, ◌∙◌, inl, inr, arith, MatchOption}
+use Rattle.std.proofs.Common.{◌≡◌, ℕ, ◌≤◌, Bool, true, false, cond, ltb, ℤ, pos, nat_abs, ◌≤ℤ◌, Some, None, Option, sym, refl, inl, inr, arith, MatchOption}
 use lib.Signed.{lt_z}
 use Rattle.std.proofs.lemmas.Int.{ints}
-use Rattle.std.proofs.lemmas.Bool.{cases_Bool, or_parts, or_from, and_left, and_right, le-ltb, ltb-false, both_ways}
+use Rattle.std.proofs.lemmas.Bool.{cases_Bool, or_parts, or_from, le-ltb, ltb-false, both_ways}
 use Rattle.timebase.specs.declared.span.Part.{Part}
 use Rattle.timebase.specs.declared.span.Part.TheVariants.{Years, Months, Weeks, Days, Time}
 use Rattle.timebase.specs.declared.span.Span.{Span}
-use Rattle.timebase.specs.Spans.{part_limit, time_limit, InLimits, NoneBelow, NoneAbove, Enterable, is_minus, is_wrong, wrong_part}
+use Rattle.timebase.specs.Spans.{part_limit, time_limit, NoneBelow, NoneAbove, Enterable, is_minus, is_wrong, wrong_part}
 
 -- a part within its limit, with the sign of the span
 right : (minus : Bool) (limit : ℕ) (part : ℤ) → nat_abs part ≤ limit → (minus ≡ true → part ≤ℤ pos 0) → is_wrong minus limit part ≡ false

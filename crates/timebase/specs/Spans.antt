@@ -1,5 +1,5 @@
 -- The limits of a span, and which spans a text can enter.
-use Rattle.std.specs.Prelude.{◌≡◌, ℕ, ◌≤◌, Bool, cond, ◌&&◌, ◌||◌, ◌⊎◌, ℤ, pos, ◌≤ℤ◌, Some, None, Option, int_lt, nat_lt, unsigned_abs}
+use Rattle.std.specs.Prelude.{ℕ, ◌≤◌, Bool, cond, ◌&&◌, ◌||◌, ◌⊎◌, ℤ, pos, ◌≤ℤ◌, Some, None, Option, int_lt, nat_lt, unsigned_abs}
 use Rattle.timebase.specs.declared.span.Part.{Part}
 use Rattle.timebase.specs.declared.span.Part.TheVariants.{Years, Months, Weeks, Days, Time}
 use Rattle.timebase.specs.declared.span.Span.{Span}

@@ -1,12 +1,11 @@
 -- A file whose fields are all sound is good.
-use Rattle.std.proofs.Common.{◌≡◌, ℕ, zero, suc, ◌+◌, ◌-◌, ◌*◌, ◌<◌, ◌≤◌, Bool, true, false, cond, ◌||◌, eqb, leb, List, [], ◌∷◌, ◌++◌, length, drop, ◌<ℤ◌, sym, refl, ap, ◌∙◌, add-one, arith, length-drop, drop-cons}
+use Rattle.std.proofs.Common.{◌≡◌, ℕ, suc, ◌+◌, ◌-◌, ◌*◌, ◌<◌, ◌≤◌, Bool, true, false, cond, ◌||◌, eqb, leb, List, [], ◌∷◌, ◌++◌, length, drop, ◌<ℤ◌, refl, ap, ◌∙◌, add-one, arith, length-drop, drop-cons}
 use lib.Signed.{lt_z}
 use Rattle.std.proofs.lemmas.Int.{ints}
 use Rattle.std.proofs.lemmas.Bool.{leb-true, eqb-true, eqb-false, ne_eqb, and_parts}
 use Rattle.std.specs.List.{AllByRecursion as All}
-use Rattle.zone.specs.Offsets.{is_offset}
 use Rattle.tzif.specs.declared.layout.Layout.{Layout}
-use Rattle.tzif.specs.Fields.{byte_at, number4, offset4, second8, Field, is_within, each}
+use Rattle.tzif.specs.Fields.{byte_at, number4, second8, Field, is_within, each}
 use Rattle.tzif.specs.File.{magic, times, types, others, second_header, rising_at, index_at, type_at, second_block, line_length, footer, footer_place, header_place, layout_at}
 use Rattle.tzif.specs.Good.{Headers, Block, Footer, GoodFile}
 use Rattle.tzif.specs.Places.{Sound, AllSound}

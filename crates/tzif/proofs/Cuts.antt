@@ -1,14 +1,12 @@
 -- A file that is cut before the place of its refusal is refused at its length.
-use Rattle.std.proofs.Common.{◌≡◌, ℕ, zero, suc, ◌+◌, ◌-◌, ◌*◌, ◌<◌, ◌≤◌, min, Bool, true, false, cond, eqb, ltb, leb, ◌⊎◌, List, [], ◌∷◌, ◌++◌, length, take, drop, Some, None, Ok, Err, Option, Result, sym, refl, ap, ◌∙◌, subst, inl, inr, arith, length-take}
+use Rattle.std.proofs.Common.{◌≡◌, ℕ, zero, suc, ◌+◌, ◌-◌, ◌*◌, ◌<◌, ◌≤◌, min, Bool, true, false, cond, eqb, ltb, leb, ◌⊎◌, List, [], ◌∷◌, ◌++◌, length, take, drop, Some, None, Ok, Err, Option, sym, refl, ap, ◌∙◌, inl, inr, arith, length-take}
 use native.Mathlib.Nat.{min-le_left, min-le_right, min-eq_left}
 use Rattle.std.proofs.lemmas.Slice.{between_is}
 use Rattle.std.proofs.lemmas.Bool.{le-leb, lt-leb, ltb-false, cases_lt, cases_Bool}
 use Rattle.std.specs.Option.{option_or as or_else}
 use Rattle.std.specs.List.{AllZip, AllByRecursion as All}
-use Rattle.timebase.specs.declared.fault.Fault.{Fault}
 use Rattle.timebase.specs.declared.fault.Fault.TheVariants.{BadFile}
 use Rattle.zone.specs.Offsets.{is_offset}
-use Rattle.tzif.specs.declared.layout.Layout.{Layout}
 use Rattle.tzif.specs.Fields.{byte_at, number4, Field, anything, byte_in, number_in, is_within, each, wrong_at, first_wrong}
 use Rattle.tzif.specs.File.{magic, times, types, others, first_block, second_header, rising_at, index_at, type_at, second_block, line_length, last_line, footer, footer_place, second_half, header_place, fields_of, layout_at, refused, answer, checked}
 use Rattle.tzif.specs.Places.{Sound, CutsAreTold}

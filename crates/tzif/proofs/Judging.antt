@@ -1,12 +1,12 @@
 -- How lists of fields are judged.
-use Rattle.std.proofs.Common.{◌≡◌, ℕ, zero, suc, ◌+◌, ◌-◌, ◌<◌, ◌≤◌, Bool, true, false, cond, eqb, leb, ◌⊎◌, List, [], ◌∷◌, ◌++◌, length, get_or, drop, Some, None, Option, sym, refl, ap, ◌∙◌, inl, inr, add-one, arith, drop_of_length-le, drop-cons}
+use Rattle.std.proofs.Common.{◌≡◌, ℕ, zero, suc, ◌+◌, ◌-◌, ◌<◌, ◌≤◌, Bool, true, false, eqb, leb, ◌⊎◌, List, [], ◌∷◌, ◌++◌, length, get_or, drop, Some, None, Option, sym, refl, ap, ◌∙◌, inl, inr, add-one, arith, drop_of_length-le, drop-cons}
 use Rattle.std.specs.Option.{option_or as or_else}
 use Rattle.std.specs.List.{AllByRecursion as All}
 use Rattle.std.proofs.ByRecursion.{All-append}
 use Rattle.std.proofs.lemmas.Bool.{leb-true, leb-false, le-leb, cases_lt}
 use Rattle.tzif.specs.Fields.{Field, each, wrong_at, first_wrong}
 use Rattle.tzif.specs.File.{times, types, others, second_header, second_block, line_length, footer, footer_place, second_half}
-use Rattle.tzif.specs.Places.{Whole, Sound, Wrong, FirstWrong}
+use Rattle.tzif.specs.Places.{Sound, Wrong, FirstWrong}
 
 or_none : (o : Option ℕ) → o ≡ or_else o None
 or_none None = refl

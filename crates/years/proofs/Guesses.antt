@@ -1,10 +1,10 @@
 -- A guess at a day's year.
-use Rattle.std.proofs.Common.{◌≡◌, ℕ, ◌-◌, ℤ, pos, ◌+ℤ◌, ◌-ℤ◌, ◌≤ℤ◌, ◌<ℤ◌, arith}
+use Rattle.std.proofs.Common.{ℕ, ◌-◌, ℤ, pos, ◌+ℤ◌, ◌-ℤ◌, ◌≤ℤ◌, ◌<ℤ◌, arith}
 use Rattle.std.proofs.lemmas.Int.{ints}
 use Rattle.years.specs.declared.date.Date.{Date}
 use Rattle.years.specs.Dates.{Shape, after}
 use Rattle.years.specs.Days.{Fitting, InRange, Near}
-use Rattle.years.proofs.Numbers.{There, there_is, number_high}
+use Rattle.years.proofs.Numbers.{there_is, number_high}
 
 -- where a number is beside every year that the day could lie in, it is a guess at the day's year
 pub near_by : (s : Shape) (start : ℤ → ℤ) (lo hi : ℤ) (o : Date) → Fitting s start lo hi o → (n : ℕ) (g : ℤ) → InRange n →

@@ -1,9 +1,9 @@
 -- Day numbers from the starts of years: they go up by one from date to date.
-use Rattle.std.proofs.Common.{◌≡◌, ℕ, zero, suc, ◌+◌, ◌-◌, ◌<◌, ◌≤◌, Bool, true, false, cond, T, ltb, ◌⊎◌, ℤ, pos, ◌+ℤ◌, ◌-ℤ◌, neg_ℤ, nat_abs, ◌≤ℤ◌, ◌<ℤ◌, sym, refl, ap, ◌∙◌, subst, inl, inr, ⊎_elim, not-suc-le-zero, arith}
+use Rattle.std.proofs.Common.{◌≡◌, ℕ, zero, suc, ◌+◌, ◌-◌, ◌<◌, ◌≤◌, ℤ, pos, ◌+ℤ◌, ◌-ℤ◌, neg_ℤ, nat_abs, ◌≤ℤ◌, ◌<ℤ◌, sym, ap, ◌∙◌, subst, inl, inr, ⊎_elim, not-suc-le-zero, arith}
 use Rattle.std.proofs.lemmas.Int.{ints, by_lt_z}
-use Rattle.std.proofs.lemmas.Bool.{cases_lt, cases_order}
+use Rattle.std.proofs.lemmas.Bool.{cases_lt}
 use Rattle.years.specs.declared.date.Date.{Date}
-use Rattle.years.specs.Dates.{Shape, Valid, Filled, next, day_on, month_on, year_on, after, Before, days_in, number, Adds}
+use Rattle.years.specs.Dates.{Shape, Valid, Filled, next, after, Before, days_in, number, Adds}
 use Rattle.years.specs.Days.{Fitting, InRange}
 use Rattle.years.proofs.Order.{by_next, after_valid, compare_dates}
 

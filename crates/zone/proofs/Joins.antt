@@ -1,9 +1,9 @@
 -- Two lawful tables side by side are lawful, and a question goes to the table that has the number.
-use Rattle.std.proofs.Common.{◌≡◌, ℕ, ◌+◌, ◌-◌, ◌<◌, ◌≤◌, min, Bool, true, false, cond, ltb, ◌⊎◌, List, ℤ, ◌≤ℤ◌, is_ok, Some, None, Option, sym, refl, ap, ◌∙◌, subst, inl, inr, arith, Bor}
-use Rattle.std.proofs.lemmas.Bool.{lt-ltb, le-ltb, cases_lt}
+use Rattle.std.proofs.Common.{◌≡◌, ℕ, ◌-◌, ◌<◌, ◌≤◌, List, ℤ, is_ok, Some, None, Option, sym, refl, ap, ◌∙◌, subst, inl, inr, arith, Bor}
+use Rattle.std.proofs.lemmas.Bool.{cases_lt}
 use Rattle.names.specs.ZoneScanning.{read_zone_name}
 use Rattle.side_by_side.specs.declared.Place.TheVariants.{First, Second, Neither}
-use Rattle.side_by_side.specs.Places.{joined_count, place_of, at_place}
+use Rattle.side_by_side.specs.Places.{joined_count, place_of}
 use Rattle.side_by_side.proofs.Placed.{low_count, few, second_there, first_is, second_is, neither_is, in_first, in_second}
 use Rattle.zone.specs.declared.value.Value.{Value}
 use Rattle.zone.specs.declared.value.Value.TheVariants.{Offset, Blank}

@@ -1,5 +1,5 @@
 -- Two tables of zones side by side.
-use Rattle.std.specs.Prelude.{ℕ, ◌+◌, min, ℤ}
+use Rattle.std.specs.Prelude.{◌+◌, min}
 use Rattle.side_by_side.specs.Places.{joined_count, at_place}
 use Rattle.zone.specs.declared.value.Value.{Value}
 use Rattle.zone.specs.declared.value.Value.TheVariants.{Offset, Blank}

@@ -1,11 +1,10 @@
 -- The first change of a zone of steps, as it is found, is the first change of what the steps tell.
-use Rattle.std.proofs.Common.{◌≡◌, Bool, true, false, cond, ◌&&◌, ◌||◌, leb, List, [], ◌∷◌, length, ℤ, pos, ◌-ℤ◌, ◌≤ℤ◌, ◌<ℤ◌, Some, None, Option, sym, refl, ap, ◌∙◌, subst, arith}
+use Rattle.std.proofs.Common.{◌≡◌, Bool, true, false, cond, ◌&&◌, leb, List, [], ◌∷◌, length, ℤ, pos, ◌-ℤ◌, ◌≤ℤ◌, ◌<ℤ◌, Some, None, Option, sym, refl, ap, ◌∙◌, subst, arith}
 use lib.Signed.{lt_z, le_z}
 use Rattle.std.proofs.lemmas.Int.{ints, by_lt_z}
-use Rattle.zone.specs.declared.value.Value.{Value}
 use Rattle.zone.specs.declared.value.Value.TheVariants.{Offset, Blank}
 use Rattle.zone.specs.Offsets.{is_offset}
-use Rattle.zone.specs.Zones.{SoundValue, FirstAt, FirstChange}
+use Rattle.zone.specs.Zones.{SoundValue, FirstChange}
 use Rattle.zone_rule.specs.declared.step.Step.{Step}
 use Rattle.zone_rule.specs.Steps.{offset_at, is_after, rising, change_in, alters_at, is_well_made, steps_tell}
 

@@ -1,9 +1,9 @@
 -- A source of one zone keeps the laws of every source, and its changes are those of its rule.
-use Rattle.std.proofs.Common.{◌≡◌, ℕ, ◌<◌, ◌≤◌, Bool, true, false, cond, ◌⊎◌, List, ℤ, pos, ◌-ℤ◌, ◌≤ℤ◌, ◌<ℤ◌, is_ok, Some, None, Option, sym, refl, ap, ◌∙◌, subst, inl, inr, arith, Bor}
+use Rattle.std.proofs.Common.{◌≡◌, ℕ, ◌<◌, ◌≤◌, ◌⊎◌, List, ℤ, pos, ◌-ℤ◌, ◌≤ℤ◌, ◌<ℤ◌, is_ok, Some, None, Option, sym, ap, ◌∙◌, subst, inl, inr, arith, Bor}
 use Rattle.std.proofs.lemmas.Int.{ints, by_lt_z}
 use Rattle.names.specs.ZoneScanning.{read_zone_name}
 use Rattle.zone.specs.declared.value.Value.{Value}
-use Rattle.zone.specs.Zones.{Zone, ZonesLaws, SoundValue, least_second, greatest_second, FirstAt, FirstChange, NameIs, ValueIs, ChangeIs}
+use Rattle.zone.specs.Zones.{Zone, ZonesLaws, SoundValue, least_second, greatest_second, FirstChange, NameIs, ValueIs, ChangeIs}
 use Rattle.zone_rule.specs.Ranges.{held, cut_low, cut_high}
 use Rattle.zone_rule.specs.Naming.{one_or_none, named_zone}
 use Rattle.zone_rule.proofs.Changes.{by_test}

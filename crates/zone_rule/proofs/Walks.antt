@@ -1,5 +1,5 @@
 -- The walk over the changes of a step zone.
-use Rattle.std.proofs.Common.{◌≡◌, ℕ, suc, ◌+◌, ◌<◌, ◌≤◌, Bool, true, false, cond, ◌&&◌, ◌||◌, List, [], ◌∷◌, length, get_or, drop, ℤ, pos, negsuc, Some, None, Option, sym, refl, ap, ◌∙◌, add-one, arith, drop_of_length-le, drop-cons}
+use Rattle.std.proofs.Common.{◌≡◌, ℕ, ◌+◌, ◌<◌, ◌≤◌, true, false, List, length, get_or, drop, ℤ, pos, Some, None, Option, add-one, drop_of_length-le, drop-cons}
 use lib.Signed.{lt_z, le_z}
 use Rattle.zone_rule.specs.declared.step.Step.{Step}
 use Rattle.zone.specs.Offsets.{is_offset}

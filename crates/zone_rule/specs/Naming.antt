@@ -1,5 +1,5 @@
 -- A source of one zone.
-use Rattle.std.specs.Prelude.{ℕ, cond, List, ℤ, is_ok}
+use Rattle.std.specs.Prelude.{ℕ, cond, List, is_ok}
 use Rattle.names.specs.ZoneScanning.{read_zone_name}
 use Rattle.zone.specs.Zones.{Zone, Zones}
 use Rattle.zone_rule.specs.Ranges.{held}

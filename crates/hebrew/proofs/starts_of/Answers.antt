@@ -1,5 +1,4 @@
-use Rattle.std.proofs.Common.{◌≡◌, sym, ◌∙◌, arith}
-use Rattle.hebrew.specs.Calendar.{year_start}
+use Rattle.std.proofs.Common.{◌∙◌, arith}
 use Rattle.hebrew.specs.Tishri.{year_days}
 use Rattle.hebrew.proofs.Told.{starts}
 use Rattle.hebrew.proofs.starts_of.Goals as goal

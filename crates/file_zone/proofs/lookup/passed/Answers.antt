@@ -1,5 +1,5 @@
-use Rattle.std.proofs.Common.{◌≡◌, ℕ, ◌+◌, ◌-◌, ◌/◌, ◌<◌, ◌≤◌, ℤ, ◌≤ℤ◌, ◌<ℤ◌, arith}
-use Rattle.std.proofs.lemmas.Int.{ints, to_z-of_z}
+use Rattle.std.proofs.Common.{◌+◌, ◌-◌, ◌/◌, arith}
+use Rattle.std.proofs.lemmas.Int.{ints}
 use Rattle.file_zone.specs.Blocks.{second_at}
 use Rattle.file_zone.proofs.Lookups.{passed_to, ahead_from}
 use Rattle.file_zone.proofs.lookup.passed.Goals as goal

@@ -1,4 +1,4 @@
-use Rattle.std.proofs.Common.{◌≡◌, ◌+◌, length, drop, sym, ap, ◌∙◌, arith}
+use Rattle.std.proofs.Common.{◌≡◌, length, drop, ap, ◌∙◌, arith}
 use Rattle.script.specs.Cutting.{line_length}
 use Rattle.script.proofs.Cuts.{found, passed, all_passed}
 use Rattle.script.proofs.lines.line_length.Goals as goal

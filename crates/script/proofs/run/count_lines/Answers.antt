@@ -1,4 +1,4 @@
-use Rattle.std.proofs.Common.{◌≡◌, [], length, sym, ap, ◌∙◌, arith}
+use Rattle.std.proofs.Common.{◌≡◌, length, ap, ◌∙◌, arith}
 use Rattle.script.specs.Scripts.{lines_of}
 use Rattle.script.proofs.Cuts.{no_lines}
 use Rattle.script.proofs.run.count_lines.Goals as goal

@@ -1,4 +1,4 @@
-use Rattle.std.proofs.Common.{◌≡◌, ◌≤◌, [], ◌∷◌, ◌++◌, length, sym, refl, ◌∙◌, subst, arith, rules}
+use Rattle.std.proofs.Common.{◌≤◌, [], ◌∷◌, ◌++◌, length, refl, ◌∙◌, subst, arith}
 use Rattle.writing.specs.Placing.{Placed}
 use Rattle.script.specs.Scripts.{answer_text, room_of, script_lines}
 use Rattle.script.proofs.Runs.{going_first, going_on}

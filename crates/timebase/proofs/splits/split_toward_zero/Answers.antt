@@ -1,4 +1,4 @@
-use Rattle.std.proofs.Common.{arith, rules}
+use Rattle.std.proofs.Common.{rules}
 use Rattle.timebase.proofs.Rounding.{toward_lawful}
 use Rattle.timebase.proofs.splits.split_toward_zero.Goals as goal
 

@@ -1,9 +1,9 @@
-use Rattle.std.proofs.Common.{◌≡◌, ◌<◌, ℤ, pos, ◌-ℤ◌, ◌≤ℤ◌, ◌<ℤ◌, sym, ap, subst, arith, w64, to_z, of_z}
-use Rattle.std.proofs.lemmas.Int.{ints, by_lt_z, to_z-of_z}
+use Rattle.std.proofs.Common.{◌≡◌, ℤ, pos, ◌-ℤ◌, sym, ap, subst, arith, w64, to_z, of_z}
+use Rattle.std.proofs.lemmas.Int.{ints, by_lt_z}
 use Rattle.std.proofs.lemmas.Bool.Decides.{not_from_Decides}
 use Rattle.zone.specs.declared.value.Value.{Value}
 use Rattle.zone.specs.Zones.{FirstAt}
-use Rattle.zone.specs.Joining.{deeper_of, deepened}
+use Rattle.zone.specs.Joining.{deeper_of}
 use Rattle.zone.proofs.depth.deep_change.Goals as goal
 
 -- the two values that were read at s and before it

@@ -1,5 +1,5 @@
 use Rattle.std.proofs.Common.{arith}
-use Rattle.std.proofs.lemmas.Int.{ints, to_z-of_z}
+use Rattle.std.proofs.lemmas.Int.{to_z-of_z}
 use Rattle.zone_rule.proofs.Walks.{offset_stop, offset_step, offset_end}
 use Rattle.zone_rule.proofs.walk.offset_at.Goals as goal
 

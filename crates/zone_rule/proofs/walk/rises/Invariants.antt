@@ -1,4 +1,4 @@
-use Rattle.std.proofs.Common.{◌≡◌, drop, Some, None}
+use Rattle.std.proofs.Common.{◌≡◌, drop, None}
 use Rattle.zone_rule.specs.Steps.{rising}
 use Rattle.zone_rule.proofs.walk.rises.Given as goal
 

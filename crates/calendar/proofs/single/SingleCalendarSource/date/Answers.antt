@@ -1,4 +1,4 @@
-use Rattle.std.proofs.Common.{◌≡◌, ◌<◌, ◌≤◌, ◌&&◌, leb, sym, ap, ◌∙◌, arith}
+use Rattle.std.proofs.Common.{◌<◌, ◌≤◌, ◌&&◌, leb, ◌∙◌, arith}
 use Rattle.calendar.specs.Calendars.{last_day}
 use Rattle.calendar.specs.Namings.{name_of}
 use Rattle.calendar.specs.Singles.{single_count}

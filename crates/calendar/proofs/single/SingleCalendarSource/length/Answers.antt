@@ -1,6 +1,6 @@
-use Rattle.std.proofs.Common.{◌≡◌, ◌<◌, ◌≤◌, sym, ap, ◌∙◌, arith}
+use Rattle.std.proofs.Common.{◌<◌, ◌≤◌, ◌∙◌, arith}
 use Rattle.calendar.specs.Calendars.{month_there}
-use Rattle.std.proofs.lemmas.Int.{ints, to_z-of_z}
+use Rattle.std.proofs.lemmas.Int.{to_z-of_z}
 use Rattle.calendar.specs.Namings.{name_of}
 use Rattle.calendar.specs.Singles.{single_count}
 use Rattle.calendar.specs.SingleLaws.{none_one, some_one}

@@ -1,4 +1,4 @@
-use Rattle.std.proofs.Common.{◌≡◌, ◌<◌, ◌≤◌, sym, ◌∙◌, arith}
+use Rattle.std.proofs.Common.{sym, ◌∙◌, arith}
 use Rattle.calendar.specs.Namings.{name_of}
 use Rattle.calendar.specs.SingleLaws.{count_is, name_is}
 use Rattle.calendar.proofs.single.SingleCalendarSource.name.Goals as goal
