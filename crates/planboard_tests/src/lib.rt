@@ -23,7 +23,7 @@ mod tests {
     fn writes_and_leaves_the_rest(rt: HostRuntime) {
         let mut out = [b'#'; 96];
         assert!(rt; write_span(&HOUR_AND_A_HALF, &mut out).is_ok());
-        assert!(rt; &out[0..9] == b"PT1H30M##");
+        assert!(rt; &out[0..9] == b"PT1H30M##".as_slice());
     }
 
     #[test]
