@@ -1,10 +1,10 @@
--- All fields of a good file are sound.
+-- AllByRecursion fields of a good file are sound.
 use Rattle.std.proofs.Common.{◌≡◌, ℕ, zero, suc, ◌+◌, ◌-◌, ◌*◌, ◌<◌, ◌≤◌, true, eqb, List, [], ◌∷◌, ◌++◌, length, get_or, drop, sym, refl, ap, ◌∙◌, add-one, arith, length-append, length-drop, get_or-drop, drop-cons}
 use lib.Signed.{lt_z}
 use Rattle.std.proofs.ByRecursion.{All-append}
 use Rattle.std.proofs.lemmas.Int.{ints}
 use Rattle.std.proofs.lemmas.Bool.{le-leb, ne_eqb, and_from, or_right}
-use Rattle.std.specs.List.{AllByRecursion as All}
+use Rattle.std.specs.List.{AllByRecursion}
 use Rattle.tzif.specs.declared.layout.Layout.{Layout}
 use Rattle.tzif.specs.Fields.{byte_at, second8, Field, is_within, each}
 use Rattle.tzif.specs.File.{times, types, others, second_header, rising_at, index_at, type_at, second_block, line_length, footer, header_place, footer_place}
@@ -19,7 +19,7 @@ exactly : (a v : ℕ) → v ≡ a → is_within a a v ≡ true
 exactly a v e = within a a v (omega arith) (omega arith)
 
 module _ (f : List ℕ) where
-  second : (h : ℕ) → (h + 44) ≤ length f → Headers f h → All (Sound f) (second_header f h (byte_at f 4))
+  second : (h : ℕ) → (h + 44) ≤ length f → Headers f h → AllByRecursion (Sound f) (second_header f h (byte_at f 4))
   second h l g = (
     (omega arith, exactly _ _ g.magic_second),
     (
@@ -41,7 +41,7 @@ module _ (f : List ℕ) where
   )
 
   module _ (b n m o : ℕ) (room : (b + 9 * n + 6 * m + o) ≤ length f) (some : 1 ≤ m) (good : Block f b n m) where
-    rising : (k : ℕ) → k < n → All (Sound f) (rising_at f b k)
+    rising : (k : ℕ) → k < n → AllByRecursion (Sound f) (rising_at f b k)
     rising zero h = ((omega arith, refl), tt)
     rising (suc k) h =
         let d : suc k - 1 ≡ k = omega arith in
@@ -50,13 +50,13 @@ module _ (f : List ℕ) where
         let q : lt_z (second8 f (b + 8 * (suc k - 1))) (second8 f (b + 8 * suc k)) ≡ true = rw d l in
         ((omega arith, or_right (eqb (suc k) 0) _ q), tt)
 
-    index : (k : ℕ) → k < n → All (Sound f) (index_at f (b + 8 * n) m k)
+    index : (k : ℕ) → k < n → AllByRecursion (Sound f) (index_at f (b + 8 * n) m k)
     index k h = let i = good.named k h in ((omega arith, within 0 (m - 1) _ (omega arith) (omega arith)), tt)
 
-    type : (k : ℕ) → k < m → All (Sound f) (type_at f (b + 9 * n) k)
+    type : (k : ℕ) → k < m → AllByRecursion (Sound f) (type_at f (b + 9 * n) k)
     type k h = ((omega arith, good.bounded k h), ((omega arith, refl), tt))
 
-    block : All (Sound f) (second_block f b n m o)
+    block : AllByRecursion (Sound f) (second_block f b n m o)
     block =
         All-append (Sound f) (each (rising_at f b) 0 n ++ each (index_at f (b + 8 * n) m) 0 n ++ each (type_at f (b + 9 * n)) 0 m) _
         (All-append (Sound f) (each (rising_at f b) 0 n ++ each (index_at f (b + 8 * n) m) 0 n) _
@@ -68,7 +68,7 @@ module _ (f : List ℕ) where
 
 -- ── the footer ──
 
-line_long : (t : List ℕ) → All (λ x. x ≡ 10 → ⊥) t → line_length (t ++ 10 ∷ []) ≡ length t
+line_long : (t : List ℕ) → AllByRecursion (λ x. x ≡ 10 → ⊥) t → line_length (t ++ 10 ∷ []) ≡ length t
 line_long [] a = refl
 line_long (b ∷ t) a = rw (ne_eqb b 10 a.0) (ap suc (line_long t a.1))
 
@@ -90,7 +90,7 @@ footer_long f q g =
     let a = length-append g.text (10 ∷ []) in
     omega arith
 
-end : (f : List ℕ) (q : ℕ) → Footer f q → All (Sound f) (footer f q)
+end : (f : List ℕ) (q : ℕ) → Footer f q → AllByRecursion (Sound f) (footer f q)
 end f q g =
     let l = footer_long f q g in
     let s = tail_of f q (g.text ++ 10 ∷ []) (omega arith) g.ends in

@@ -3,7 +3,7 @@ use Rattle.std.proofs.Common.{◌≡◌, ℕ, suc, ◌+◌, ◌-◌, ◌*◌, �
 use lib.Signed.{lt_z}
 use Rattle.std.proofs.lemmas.Int.{ints}
 use Rattle.std.proofs.lemmas.Bool.{leb-true, eqb-true, eqb-false, ne_eqb, and_parts}
-use Rattle.std.specs.List.{AllByRecursion as All}
+use Rattle.std.specs.List.{AllByRecursion}
 use Rattle.tzif.specs.declared.layout.Layout.{Layout}
 use Rattle.tzif.specs.Fields.{byte_at, number4, second8, Field, is_within, each}
 use Rattle.tzif.specs.File.{magic, times, types, others, second_header, rising_at, index_at, type_at, second_block, line_length, footer, footer_place, header_place, layout_at}
@@ -18,7 +18,7 @@ exactly : (a v : ℕ) → is_within a a v ≡ true → v ≡ a
 exactly a v e = let t = within a a v e in omega arith
 
 module _ (f : List ℕ) where
-  headers : (h : ℕ) → is_within magic magic (number4 f 0) ≡ true → is_within 50 51 (byte_at f 4) ≡ true → All (Sound f) (second_header f h (byte_at f 4)) → Headers f h
+  headers : (h : ℕ) → is_within magic magic (number4 f 0) ≡ true → is_within 50 51 (byte_at f 4) ≡ true → AllByRecursion (Sound f) (second_header f h (byte_at f 4)) → Headers f h
   headers h m v a = record {
     magic_first = exactly magic (number4 f 0) m;
     version = within 50 51 (byte_at f 4) v;
@@ -34,7 +34,7 @@ module _ (f : List ℕ) where
   or_right true y e h = absurd (let z : ◌≡◌ {A = ℕ} 0 1 = cc in omega arith)
   or_right false y e h = e
 
-  rising : (b n : ℕ) → All (Sound f) (each (rising_at f b) 0 n) → (k : ℕ) → suc k < n → second8 f (b + 8 * k) <ℤ second8 f (b + 8 * suc k)
+  rising : (b n : ℕ) → AllByRecursion (Sound f) (each (rising_at f b) 0 n) → (k : ℕ) → suc k < n → second8 f (b + 8 * k) <ℤ second8 f (b + 8 * suc k)
   rising b n a k h =
       let s = each_parts (Sound f) (rising_at f b) n 0 a (suc k) (omega arith) (omega arith) in
       let z : eqb (suc k) 0 ≡ false = ne_eqb (suc k) 0 (λ e. omega arith) in
@@ -43,13 +43,13 @@ module _ (f : List ℕ) where
       let r : lt_z (second8 f (b + 8 * k)) (second8 f (b + 8 * suc k)) ≡ true = rw d at l in
       grind (arith, ints)
 
-  named : (b m n : ℕ) → 1 ≤ m → All (Sound f) (each (index_at f b m) 0 n) → (k : ℕ) → k < n → byte_at f (b + k) < m
+  named : (b m n : ℕ) → 1 ≤ m → AllByRecursion (Sound f) (each (index_at f b m) 0 n) → (k : ℕ) → k < n → byte_at f (b + k) < m
   named b m n s a k h =
       let t = each_parts (Sound f) (index_at f b m) n 0 a k (omega arith) (omega arith) in
       let w = (within 0 (m - 1) (byte_at f (b + k)) t.0.1).1 in
       omega arith
 
-  block : (b n m o : ℕ) → 1 ≤ m → All (Sound f) (second_block f b n m o) → Block f b n m
+  block : (b n m o : ℕ) → 1 ≤ m → AllByRecursion (Sound f) (second_block f b n m o) → Block f b n m
   block b n m o s a =
       let t = (all_parts (Sound f) (each (rising_at f b) 0 n ++ each (index_at f (b + 8 * n) m) 0 n ++ each (type_at f (b + 9 * n)) 0 m) _ a).0 in
       let u = all_parts (Sound f) (each (rising_at f b) 0 n ++ each (index_at f (b + 8 * n) m) 0 n) _ t in
@@ -63,7 +63,7 @@ module _ (f : List ℕ) where
 -- ── the footer ──
 
 abbrev OneLine : List ℕ → Type 0
-OneLine bs = (t : List ℕ) × (All (λ x. x ≡ 10 → ⊥) t) × (bs ≡ t ++ 10 ∷ [])
+OneLine bs = (t : List ℕ) × (AllByRecursion (λ x. x ≡ 10 → ⊥) t) × (bs ≡ t ++ 10 ∷ [])
 
 no_more : (bs : List ℕ) → 1 ≡ suc (length bs) → bs ≡ []
 no_more [] e = refl
@@ -81,7 +81,7 @@ line (b ∷ bs) e = line_by b bs (eqb b 10) refl e (line bs)
 split : (f : List ℕ) (q : ℕ) (t : List ℕ) → q < length f → byte_at f q ≡ 10 → drop (q + 1) f ≡ t ++ 10 ∷ [] → drop q f ≡ 10 ∷ (t ++ 10 ∷ [])
 split f q t h e k = let k₁ : drop (suc q) f ≡ t ++ 10 ∷ [] = rw add-one at k in drop-cons f q 0 h ∙ rw (e, k₁)
 
-end : (f : List ℕ) (q : ℕ) → All (Sound f) (footer f q) → Footer f q
+end : (f : List ℕ) (q : ℕ) → AllByRecursion (Sound f) (footer f q) → Footer f q
 end f q a =
     let n : ℕ = line_length (drop (q + 1) f) in
     let e = leb-true (length f) (q + 1 + n + 1) a.1.1.1.0.1 in

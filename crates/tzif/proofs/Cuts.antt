@@ -4,7 +4,7 @@ use native.Mathlib.Nat.{min-le_left, min-le_right, min-eq_left}
 use Rattle.std.proofs.lemmas.Slice.{between_is}
 use Rattle.std.proofs.lemmas.Bool.{le-leb, lt-leb, ltb-false, cases_lt, cases_Bool}
 use Rattle.std.specs.Option.{option_or as or_else}
-use Rattle.std.specs.List.{AllZip, AllByRecursion as All}
+use Rattle.std.specs.List.{AllZip, AllByRecursion}
 use Rattle.timebase.specs.declared.fault.Fault.TheVariants.{BadFile}
 use Rattle.zone.specs.Offsets.{is_offset}
 use Rattle.tzif.specs.Fields.{byte_at, number4, Field, anything, byte_in, number_in, is_within, each, wrong_at, first_wrong}
@@ -68,7 +68,7 @@ module _ (f : List ℕ) (k : ℕ) (short : k < length f) where
       ]
 
   -- alike as far as they go, and refused after that if at all
-  stop : (xs ys xs' ys' : List Field) → AllZip Alike xs ys → Past (first_wrong f (xs ++ xs')) → (All (Sound cut) ys → Past (first_wrong f xs') → first_wrong cut ys' ≡ Some k) → first_wrong cut (ys ++ ys') ≡ Some k
+  stop : (xs ys xs' ys' : List Field) → AllZip Alike xs ys → Past (first_wrong f (xs ++ xs')) → (AllByRecursion (Sound cut) ys → Past (first_wrong f xs') → first_wrong cut ys' ≡ Some k) → first_wrong cut (ys ++ ys') ≡ Some k
   stop xs ys xs' ys' s u after =
       let v : Past (or_else (first_wrong f xs) (first_wrong f xs')) = λ p e. u p (first_append f xs xs' ∙ e) in
       first_append cut ys ys' ∙

@@ -1,7 +1,7 @@
 -- How lists of fields are judged.
 use Rattle.std.proofs.Common.{◌≡◌, ℕ, zero, suc, ◌+◌, ◌-◌, ◌<◌, ◌≤◌, Bool, true, false, eqb, leb, ◌⊎◌, List, [], ◌∷◌, ◌++◌, length, get_or, drop, Some, None, Option, sym, refl, ap, ◌∙◌, inl, inr, add-one, arith, drop_of_length-le, drop-cons}
 use Rattle.std.specs.Option.{option_or as or_else}
-use Rattle.std.specs.List.{AllByRecursion as All}
+use Rattle.std.specs.List.{AllByRecursion}
 use Rattle.std.proofs.ByRecursion.{All-append}
 use Rattle.std.proofs.lemmas.Bool.{leb-true, leb-false, le-leb, cases_lt}
 use Rattle.tzif.specs.Fields.{Field, each, wrong_at, first_wrong}
@@ -73,7 +73,7 @@ module _ (f : List ℕ) where
   judge x = by_tests x (leb (x.place + x.size) (length f)) x.right refl refl
 
   -- no field is wrong
-  pub sound_all : (xs : List Field) → first_wrong f xs ≡ None → All (Sound f) xs
+  pub sound_all : (xs : List Field) → first_wrong f xs ≡ None → AllByRecursion (Sound f) xs
   sound_all [] e = tt
   sound_all (x ∷ xs) e =
       elim (judge x) [
@@ -81,7 +81,7 @@ module _ (f : List ℕ) where
         | inr w ↦ absurd (let t : Some w.0 ≡ None = rw w.2 at e in let z : ◌≡◌ {A = ℕ} 0 1 = cc in omega arith)
       ]
 
-  pub none_wrong : (xs : List Field) → All (Sound f) xs → first_wrong f xs ≡ None
+  pub none_wrong : (xs : List Field) → AllByRecursion (Sound f) xs → first_wrong f xs ≡ None
   none_wrong [] a = refl
   none_wrong (x ∷ xs) a = rw (le-leb _ _ a.0.0, a.0.1) (none_wrong xs a.1)
 
@@ -102,11 +102,11 @@ module _ (f : List ℕ) where
 -- ── what holds of each field, part by part ──
 
 module _ (P : Field → Type 0) where
-  pub all_parts : (xs ys : List Field) → All P (xs ++ ys) → All P xs × All P ys
+  pub all_parts : (xs ys : List Field) → AllByRecursion P (xs ++ ys) → AllByRecursion P xs × AllByRecursion P ys
   all_parts [] ys a = (tt, a)
   all_parts (x ∷ xs) ys a = let t = all_parts xs ys a.1 in ((a.0, t.0), t.1)
 
-  pub each_parts : (fields : ℕ → List Field) (n i : ℕ) → All P (each fields i n) → (k : ℕ) → i ≤ k → k < i + n → All P (fields k)
+  pub each_parts : (fields : ℕ → List Field) (n i : ℕ) → AllByRecursion P (each fields i n) → (k : ℕ) → i ≤ k → k < i + n → AllByRecursion P (fields k)
   each_parts fields zero i a k h l = absurd (omega arith)
   each_parts fields (suc n) i a k h l =
       let t = all_parts (fields i) (each fields (suc i) n) a in
@@ -115,7 +115,7 @@ module _ (P : Field → Type 0) where
         | inr ge ↦ let q : k ≡ i = omega arith in rw q t.0
       ]
 
-  pub each_from : (fields : ℕ → List Field) (n i : ℕ) → ((k : ℕ) → i ≤ k → k < i + n → All P (fields k)) → All P (each fields i n)
+  pub each_from : (fields : ℕ → List Field) (n i : ℕ) → ((k : ℕ) → i ≤ k → k < i + n → AllByRecursion P (fields k)) → AllByRecursion P (each fields i n)
   each_from fields zero i a = tt
   each_from fields (suc n) i a =
       All-append P (fields i) (each fields (suc i) n) (a i (omega arith) (omega arith)) (each_from fields n (suc i) (λ k h l. a k (omega arith) (omega arith)))

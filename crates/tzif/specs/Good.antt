@@ -1,6 +1,6 @@
 -- What a good file holds, in its own terms.
 use Rattle.std.specs.Prelude.{◌≡◌, ℕ, suc, ◌+◌, ◌*◌, ◌<◌, ◌≤◌, true, List, [], ◌∷◌, ◌++◌, length, drop, ◌<ℤ◌, Ok, Err, Result, ◌≢◌}
-use Rattle.std.specs.List.{AllByRecursion as All}
+use Rattle.std.specs.List.{AllByRecursion}
 use Rattle.timebase.specs.declared.fault.Fault.{Fault}
 use Rattle.zone.specs.Offsets.{is_offset}
 use Rattle.tzif.specs.declared.layout.Layout.{Layout}
@@ -27,7 +27,7 @@ pub record Block (f : List ℕ) (b n m : ℕ) : Type 0 where
 -- the footer, at place q: a newline, text without one, a newline, and the end of the file
 pub record Footer (f : List ℕ) (q : ℕ) : Type 0 where
   pub text : List ℕ
-  pub one_line : All (λ b. b ≢ 10) text
+  pub one_line : AllByRecursion (λ b. b ≢ 10) text
   pub ends : drop q f ≡ 10 ∷ (text ++ 10 ∷ [])
 
 -- a good file and its parts; the second header stands at place h

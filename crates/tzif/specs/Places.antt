@@ -1,6 +1,6 @@
 -- Where a file is refused: at its first wrong field, of those that it has in file order.
 use Rattle.std.specs.Prelude.{◌≡◌, ℕ, ◌+◌, ◌<◌, ◌≤◌, min, true, false, ◌⊎◌, List, ◌∷◌, ◌++◌, length, take, Ok, Err, Result}
-use Rattle.std.specs.List.{AllByRecursion as All}
+use Rattle.std.specs.List.{AllByRecursion}
 use Rattle.timebase.specs.declared.fault.Fault.{Fault}
 use Rattle.timebase.specs.declared.fault.Fault.TheVariants.{BadFile}
 use Rattle.tzif.specs.declared.layout.Layout.{Layout}
@@ -24,11 +24,11 @@ pub record FirstWrong (f : List ℕ) (fields : List Field) (p : ℕ) : Type 0 wh
   pub field : Field
   pub after : List Field
   pub in_order : fields ≡ before ++ field ∷ after
-  pub sound : All (Sound f) before
+  pub sound : AllByRecursion (Sound f) before
   pub wrong : Wrong f field p
 
 abbrev pub AllSound : List ℕ → Type 0
-AllSound f = All (Sound f) (fields_of f)
+AllSound f = AllByRecursion (Sound f) (fields_of f)
 
 -- place p of a refusal: that of the first wrong field, and 65,536 where that is less; or no field is wrong, and the file is longer
 abbrev pub RefusedAt : List ℕ → ℕ → Type 0
