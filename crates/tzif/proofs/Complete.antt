@@ -1,4 +1,4 @@
--- AllByRecursion fields of a good file are sound.
+-- All fields of a good file are sound.
 use Rattle.std.proofs.Common.{◌≡◌, ℕ, zero, suc, ◌+◌, ◌-◌, ◌*◌, ◌<◌, ◌≤◌, true, eqb, List, [], ◌∷◌, ◌++◌, length, get_or, drop, sym, refl, ap, ◌∙◌, add-one, arith, length-append, length-drop, get_or-drop, drop-cons}
 use lib.Signed.{lt_z}
 use Rattle.std.proofs.ByRecursion.{All-append}

@@ -7,7 +7,7 @@
 ghost use Rattle.std.specs.Prelude.{◌≡◌, ℕ, ◌+◌, ◌*◌, ◌≤◌, length, drop, IfOk, OnOk};
 ghost use Rattle.std.specs.Result.{result_err};
 ghost use Rattle.tzif.specs.Fields.{each, first_wrong};
-ghost use Rattle.tzif.specs.File.{times as times_of, types as types_of, others as others_of, first_block, counts as CountsOf, second_header, rising_at, index_at, type_at, second_block, line_length, last_line, footer as footer_of, second_half, header_place, layout_at, fields_of, refused, checked};
+ghost use Rattle.tzif.specs.File.{times as times_of, types as types_of, others as others_of, first_block, counts as counts_of, second_header, rising_at, index_at, type_at, second_block, line_length, last_line, footer as footer_of, second_half, header_place, layout_at, fields_of, refused, checked};
 ghost use Rattle.tzif.specs.Good.{Judged};
 ghost use Rattle.tzif.specs.Places.{Placed, CutsAreTold};
 
@@ -58,7 +58,7 @@ fn others(file: &[u8], at: usize) -> usize
 // The counts of the second header, at `at`.
 fn counts(file: &[u8], at: usize) -> Result<Counts, usize>
     requires { at + 28 ≤ length file.now }
-    ensures wrong { result_err result ≡ first_wrong file.now (CountsOf file.now at) }
+    ensures wrong { result_err result ≡ first_wrong file.now (counts_of file.now at) }
     ensures value { IfOk result (λ c. (c.times ≡ times_of file.now at) × (c.types ≡ types_of file.now at) × (c.others ≡ others_of file.now at)) }
     ensures near { IfOk result (λ c. (at + 44 ≤ length file.now) × (c.times ≤ 2000) × (1 ≤ c.types) × (c.types ≤ 256)) }
 {
