@@ -1,7 +1,7 @@
 use Rattle.std.proofs.Common.{arith}
 use Rattle.std.proofs.lemmas.Int.{to_z-of_z}
 use Rattle.zone_rule.proofs.Walks.{change_stop, change_here, change_step, change_end}
-use Rattle.zone_rule.proofs.walk.change_in.Goals as goal
+use Rattle.zone_rule.proofs.steps.Offsets.change.Goals as goal
 
 pub returns-then-before-c : goal.returns-then-before-c
 returns-then-before-c c = grind (arith, to_z-of_z, change_stop)

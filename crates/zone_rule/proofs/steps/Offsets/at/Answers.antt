@@ -1,7 +1,7 @@
 use Rattle.std.proofs.Common.{arith}
 use Rattle.std.proofs.lemmas.Int.{to_z-of_z}
 use Rattle.zone_rule.proofs.Walks.{offset_stop, offset_step, offset_end}
-use Rattle.zone_rule.proofs.walk.offset_at.Goals as goal
+use Rattle.zone_rule.proofs.steps.Offsets.at.Goals as goal
 
 pub returns-then-second-c : goal.returns-then-second-c
 returns-then-second-c c = grind (arith, to_z-of_z, offset_stop)
