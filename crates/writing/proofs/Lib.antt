@@ -1,4 +1,3 @@
 pub mod Copies
 pub mod FractionDigits
-pub mod Numbers
 pub mod Placings

@@ -2,10 +2,11 @@
 // for its whole text.
 #![tactic(auto)]
 
-ghost use Rattle.std.specs.Prelude.{◌≡◌, ◌≤◌, [], ◌∷◌, take, decimal};
-ghost use Rattle.std.specs.List.{between};
+ghost use Rattle.std.specs.Prelude.{[], ◌∷◌, decimal};
 ghost use Rattle.writing.specs.Fractions.{point_text};
 ghost use Rattle.writing.specs.Placing.{Placed};
+
+use itoa::Buffer;
 
 // Puts bytes at a place of the buffer, as many as fit, and answers the place after them.
 pub fn put_bytes(out: &mut [u8], at: usize, bytes: &[u8]) -> usize
@@ -27,54 +28,12 @@ pub fn put_byte(out: &mut [u8], at: usize, b: u8) -> usize
     put_bytes(out, at, &[b])
 }
 
-// How many digits the largest number has.
-const MOST_DIGITS: usize = 20;
-
-// The decimal digits of a number, at the end of an array, and where they start.
-fn digits_of(n: u64) -> ([u8; MOST_DIGITS], usize)
-    ensures { (between result.1 20 result.0 ≡ decimal n) × (result.1 ≤ 20) }
-{
-    let mut digits = [b'0'; MOST_DIGITS];
-    let mut start = MOST_DIGITS - 1;
-    let mut rest = n;
-    while rest >= 10 {
-        digits[start] = b'0' + (rest % 10) as u8;
-        start -= 1;
-        rest /= 10;
-    }
-    digits[start] = b'0' + rest as u8;
-    (digits, start)
-}
-
 // Puts the decimal digits of a number, as many as fit, and answers the place after them.
 pub fn put_number(out: &mut [u8], at: usize, n: u64) -> usize
     ensures { Placed out.old at (decimal n) out.new result }
 {
-    let (digits, start) = digits_of(n);
-    put_bytes(out, at, &digits[start..])
-}
-
-// How long the longest fraction is: a point and six digits.
-const LONGEST_POINT: usize = 7;
-
-// The text of the fraction of a second, at the start of an array, and its length.
-fn point_of(micros: u32) -> ([u8; LONGEST_POINT], usize)
-    ensures { (take result.1 result.0 ≡ point_text micros) × (result.1 ≤ 7) }
-{
-    let mut text = [b'.'; LONGEST_POINT];
-    let mut unit = 1_000_000;
-    let mut rest = micros % unit;
-    if rest == 0 {
-        return (text, 0);
-    }
-    let mut count = 1;
-    while rest > 0 {
-        unit /= 10;
-        text[count] = b'0' + (rest / unit) as u8;
-        rest %= unit;
-        count += 1;
-    }
-    (text, count)
+    let mut digits = Buffer::new();
+    put_bytes(out, at, digits.format(n).as_bytes())
 }
 
 // Puts the fraction of a second, as much of it as fits, and answers the place after it: a point and up to six digits
@@ -82,6 +41,16 @@ fn point_of(micros: u32) -> ([u8; LONGEST_POINT], usize)
 pub fn put_point(out: &mut [u8], at: usize, micros: u32) -> usize
     ensures { Placed out.old at (point_text micros) out.new result }
 {
-    let (text, count) = point_of(micros);
-    put_bytes(out, at, &text[..count])
+    let mut unit = 1_000_000;
+    let mut rest = micros % unit;
+    if rest == 0 {
+        return at;
+    }
+    let mut end = put_byte(out, at, b'.');
+    while rest > 0 {
+        unit /= 10;
+        end = put_byte(out, end, b'0' + (rest / unit) as u8);
+        rest %= unit;
+    }
+    end
 }
