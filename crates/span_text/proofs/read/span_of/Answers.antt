@@ -1,4 +1,4 @@
-use Rattle.std.proofs.Common.{rules, ◌≡◌, to_z, of_z, w32, w64, arith}
+use Rattle.std.proofs.Common.{rules, ◌≡◌, ◌∙◌, to_z, of_z, w32, w64, arith}
 use Rattle.timebase.specs.declared.span.Part.TheVariants.{Years, Months, Weeks, Days, Time}
 use Rattle.timebase.specs.Spans.{part_limit, time_limit}
 use Rattle.span_text.specs.Spans.{signed, time_of, WithinLimits}
@@ -15,6 +15,7 @@ returns c =
     let w = kept part_limit f.weeks Weeks c.in_ok-count_of-3.ensures in
     let d = kept part_limit f.days Days c.in_ok-count_of-4.ensures in
     let t = kept time_limit (time_of f) Time c.in_ok-time_of.ensures in
-    let wide : to_z w64 (of_z w64 c.from.result) ≡ signed f.minus 1 = rw (c.from.ensures, sign) (unit f.minus) in
+    let widened : c.from.result ≡ signed f.minus 1 = c.from.ensures ∙ sign in
+    let wide : to_z w64 (of_z w64 c.from.result) ≡ signed f.minus 1 = rw widened (unit f.minus) in
     let all : WithinLimits f = record { years = y.few; months = m.few; weeks = w.few; days = d.few; time = t.few } in
     rw (product w32 f.minus _ sign y (omega arith), product w32 f.minus _ sign m (omega arith), product w32 f.minus _ sign w (omega arith), product w32 f.minus _ sign d (omega arith), product w64 f.minus _ wide t (omega arith)) (limited_within f all)
