@@ -181,12 +181,14 @@ impl Fields {
                 micros: micros + micros_of_digit(byte - b'0', digits),
                 digits: digits + 1,
             })),
-            b'S' => Some(Fields {
-                seconds,
-                micros,
-                ..self
+            b'S' => {
+                let fields = Fields {
+                    seconds,
+                    micros,
+                    ..self
+                };
+                Some(fields.at(Stage::After(Designator::Seconds)))
             }
-            .at(Stage::After(Designator::Seconds))),
             _ => None,
         }
     }
@@ -202,11 +204,13 @@ impl Scan for Progress {
     fn step(self, _at: usize, byte: u8) -> Option<Progress> {
         let fields = self.fields;
         match self.stage {
-            Stage::Start if byte == b'-' => Some(Fields {
-                minus: true,
-                ..START.fields
+            Stage::Start if byte == b'-' => {
+                let fields = Fields {
+                    minus: true,
+                    ..START.fields
+                };
+                Some(fields.at(Stage::Signed))
             }
-            .at(Stage::Signed)),
             Stage::Start | Stage::Signed => {
                 (byte == b'P').then_some(fields.at(Stage::After(Designator::Period)))
             }

@@ -1,6 +1,6 @@
 // The canonical text of a span. A place in the buffer has the name of what is put there.
 ghost use Rattle.std.specs.Prelude.{◌≡◌, [], ◌∷◌};
-ghost use Rattle.span_text.specs.Canonical.{clock_text, date_text, is_nought, part_text, seconds_text, sign_text, span_text, time_text};
+ghost use Rattle.span_text.specs.Canonical.{date_text, is_nought, part_text, seconds_text, sign_text, span_text, time_text};
 ghost use Rattle.span_text.specs.Canonical.{write_answer, write_memory};
 ghost use Rattle.span_text.specs.RoundTrip.{ReadsBack};
 ghost use Rattle.writing.specs.Placing.{GoesOn, Placed};
@@ -37,24 +37,17 @@ fn put_seconds(out: &mut [u8], at: usize, micros: u32) -> usize
     put_byte(out, letter, b'S')
 }
 
-// A time that isn't nought: hours, as many as there are, and minutes and seconds below 60.
-fn put_clock(out: &mut [u8], at: usize, micros: u64) -> usize
-    ensures { Placed out.old at (clock_text micros) out.new result }
-{
-    let hours = put_byte(out, at, b'T');
-    let minutes = put_part(out, hours, micros / 3_600_000_000, b'H');
-    let seconds = put_part(out, minutes, micros / 60_000_000 % 60, b'M');
-    put_seconds(out, seconds, (micros % 60_000_000) as u32)
-}
-
-// The time of a span, unless it is nought.
+// The time of a span, unless it is nought: hours, as many as there are, and minutes and seconds below 60.
 fn put_time(out: &mut [u8], at: usize, micros: u64) -> usize
     ensures { Placed out.old at (time_text micros) out.new result }
 {
     if micros == 0 {
         return at;
     }
-    put_clock(out, at, micros)
+    let hours = put_byte(out, at, b'T');
+    let minutes = put_part(out, hours, micros / 3_600_000_000, b'H');
+    let seconds = put_part(out, minutes, micros / 60_000_000 % 60, b'M');
+    put_seconds(out, seconds, (micros % 60_000_000) as u32)
 }
 
 // The years, months, weeks and days that aren't nought.
