@@ -3,8 +3,9 @@ use Rattle.std.proofs.Common.{◌≡◌, ℕ, zero, suc, ◌+◌, ◌*◌, ◌/�
 use native.Mathlib.Nat.{pow-le-pow_right, pow-succ'}
 use Rattle.std.proofs.lemmas.Bool.{ne_eqb, eq-eqb, cond_both}
 use Rattle.writing.specs.Fractions.{fraction_digits, point_text}
-use Rattle.writing.specs.Placing.{Placed}
-use Rattle.writing.proofs.Placings.{placed_more}
+use Rattle.writing.specs.declared.Writer.{Writer}
+use Rattle.writing.specs.Putting.{Puts}
+use Rattle.writing.proofs.Puttings.{puts_more}
 
 pub point_none : (micros : ℕ) → micros % 1000000 ≡ 0 → point_text micros ≡ []
 unfolding point_text
@@ -45,23 +46,23 @@ tenth (suc k) unit rest e s h =
     record { fewer = k; places_is = refl; tenth_is = t; some = some; digit = (div-lt_iff_lt-mul some).1 l }
 
 -- a fraction is put in part: `rest` of it is left, for as many places as `unit` has zeros
-pub record Going (before : List ℕ) (at micros : ℕ) (after : List ℕ) (end unit rest : ℕ) : Type 0 where
+pub record Going (before : Writer) (micros : ℕ) (now : Writer) (unit rest : ℕ) : Type 0 where
   pub places : ℕ
   pub text : List ℕ
-  pub put : Placed before at text after end
+  pub put : Puts before text now
   pub unit_is : unit ≡ 10 ^ places
   pub small : rest < unit
   pub next : 0 < rest → Tenth places unit rest
   pub whole : text ++ fraction_digits places rest ≡ point_text micros
 
-pub going_first : {before after : List ℕ} {at end : ℕ} (micros : ℕ) → (micros % 1000000 ≡ 0 → ⊥) → Placed before at (46 ∷ []) after end
-    → Going before at micros after end 1000000 (micros % 1000000)
+pub going_first : {before after : Writer} (micros : ℕ) → (micros % 1000000 ≡ 0 → ⊥) → Puts before (46 ∷ []) after
+    → Going before micros after 1000000 (micros % 1000000)
 going_first micros some put =
     let small : micros % 1000000 < 1000000 = mod-lt micros (omega arith) in
     record { places = 6; text = _; put = put; unit_is = refl; small = small; next = tenth 6 _ _ refl small; whole = sym (point_some micros some) }
 
-pub going_on : {before mid after : List ℕ} {at micros j end unit rest : ℕ} → Going before at micros mid j unit rest → 0 < rest
-    → Placed mid j ((48 + rest / (unit / 10)) ∷ []) after end → Going before at micros after end (unit / 10) (rest % (unit / 10))
+pub going_on : {before mid after : Writer} {micros unit rest : ℕ} → Going before micros mid unit rest → 0 < rest
+    → Puts mid ((48 + rest / (unit / 10)) ∷ []) after → Going before micros after (unit / 10) (rest % (unit / 10))
 going_on {unit} {rest} g h put =
     let n = g.next h in
     let some : rest ≡ 0 → ⊥ = λ z. omega arith in
@@ -69,15 +70,14 @@ going_on {unit} {rest} g h put =
     record {
       places = n.fewer;
       text = g.text ++ ((48 + rest / (unit / 10)) ∷ []);
-      put = placed_more g.put put;
+      put = puts_more g.put put;
       unit_is = n.tenth_is;
       small = small;
       next = tenth _ _ _ n.tenth_is small;
       whole = append_assoc g.text _ _ ∙ rw (n.tenth_is, ← fraction_some n.fewer rest some, ← n.places_is) g.whole;
     }
 
-pub going_end : {before after : List ℕ} {at micros end unit rest : ℕ} → Going before at micros after end unit rest → rest ≡ 0
-    → Placed before at (point_text micros) after end
+pub going_end : {before after : Writer} {micros unit rest : ℕ} → Going before micros after unit rest → rest ≡ 0 → Puts before (point_text micros) after
 going_end g z = rw (← g.whole, z, fraction_none, append-nil) g.put
 
 -- ── its length ──

@@ -1,3 +1,4 @@
 pub mod Copies
 pub mod FractionDigits
 pub mod Placings
+pub mod Puttings
