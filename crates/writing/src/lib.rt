@@ -64,7 +64,7 @@ impl<'b> Writer<'b> {
     }
 }
 
-// ── one piece, for a caller that keeps the place itself ──
+// ── one piece at a place: these stay beside the writer, for callers that keep the place themselves ──
 
 // Puts bytes at a place of the buffer, as many as fit, and answers the place after them.
 pub fn put_bytes(out: &mut [u8], at: usize, bytes: &[u8]) -> usize
