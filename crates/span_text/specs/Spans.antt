@@ -29,6 +29,10 @@ span_of f = record {
   time = signed f.minus (time_of f);
 }
 
+-- a part's size, if it keeps the limit
+abbrev pub within : ℕ → Part → ℕ → Result ℤ Fault
+within limit part size = cond (nat_lt limit size) (Err (PastLimit part)) (Ok (pos size))
+
 -- the first part that is past its limit
 abbrev pub past_limit : Fields → Option Part
 past_limit f =
