@@ -58,7 +58,7 @@ limited_again b s l p = sym (limited_within (fields_of b s) (within_again b s l)
 
 read_again : (b : Bool) (s : Span) → InLimits s → SignedParts b s → SpanText (span_text s) (fields_of b s) → read_span (span_text s) ≡ Ok s
 read_again b s l p t =
-    ap (λ r. elim r [ Ok f ↦ limited_span f | Err place ↦ Err (Unreadable place) ]) (complete (span_text s) (fields_of b s) t) ∙ limited_again b s l p
+    ap (λ r. elim r [ Ok f ↦ limited_span f | Err m ↦ Err (Unreadable m.at) ]) (complete (span_text s) (fields_of b s) t) ∙ limited_again b s l p
 
 plus_parts : (s : Span) → NoneBelow s → SignedParts false s
 plus_parts s n = record {

@@ -47,7 +47,7 @@ limited_span f = elim (past_limit f) [ Some part ↦ Err (PastLimit part) | None
 
 -- what reading a text answers
 abbrev pub read_span : List ℕ → Result Span Fault
-read_span t = elim (read_fields t) [ Ok f ↦ limited_span f | Err place ↦ Err (Unreadable place) ]
+read_span t = elim (read_fields t) [ Ok f ↦ limited_span f | Err m ↦ Err (Unreadable m.at) ]
 
 -- ── the answer by the grammar ──
 

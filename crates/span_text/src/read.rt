@@ -55,8 +55,5 @@ pub fn read_span(text: &[u8]) -> Result<Span, Fault>
     ensures grammar { Answered text.now result }
     ensures one { (f g : Said) → SpanText text.now f → SpanText text.now g → f ≡ g }
 {
-    match read(START, text) {
-        Ok(fields) => span_of(fields),
-        Err(at) => Err(Fault::Unreadable { at }),
-    }
+    span_of(read(START, text)?)
 }

@@ -56,11 +56,19 @@ fn put_date(writer: &mut Writer, span: &Span)
     put_part(writer, u64::from(span.days.unsigned_abs()), b'D');
 }
 
+const NOUGHT: Span = Span {
+    years: 0,
+    months: 0,
+    weeks: 0,
+    days: 0,
+    time: 0,
+};
+
 // Whether every part is nought.
 fn is_nought(span: &Span) -> bool
     ensures { result ≡ is_nought span.now }
 {
-    span.years == 0 && span.months == 0 && span.weeks == 0 && span.days == 0 && span.time == 0
+    *span == NOUGHT
 }
 
 // Puts the text of a span, as much of it as fits: a piece of a longer text. Of a span that a text can enter, it is the
