@@ -1,23 +1,27 @@
 -- A text is its first line and the lines after it.
-use Rattle.std.proofs.Common.{◌≡◌, ℕ, suc, ◌+◌, ◌-◌, ◌<◌, ◌≤◌, Bool, true, false, eqb, List, [], ◌∷◌, ◌++◌, length, get_or, take, drop, sym, refl, ap, ◌∙◌, append_assoc, append-nil, add-one, arith, length-drop, length-take, drop-cons}
+use Rattle.std.proofs.Common.{◌≡◌, ℕ, suc, ◌+◌, ◌-◌, ◌<◌, ◌≤◌, Bool, true, false, not, eqb, inl, inr, List, [], ◌∷◌, ◌++◌, length, take, drop, sym, refl, ap, ◌∙◌, append_assoc, append-nil, arith, length-drop, length-take}
 use Rattle.std.proofs.lemmas.List.{drop-drop, drop_all, take_rest}
-use Rattle.std.proofs.lemmas.Bool.{ne_eqb, eq-eqb}
+use Rattle.std.proofs.lemmas.Bool.{lt-ltb, le-ltb, cases_lt}
+use Rattle.std.specs.Option.{unwrap_or}
+use Rattle.std.specs.List.{position, position_or_len}
+use Rattle.std.proofs.lemmas.List.Recursion.{is_position_or_len}
+use Rattle.std.proofs.lemmas.List.Sums.{prefix_len-le-length}
 use Rattle.script.specs.Cutting.{line_length}
 use Rattle.script.specs.Scripts.{lines_on, lines_of}
 
--- ── the loop ──
+-- ── the first newline ──
 
-pub found : (xs : List ℕ) (i : ℕ) → i < length xs → get_or xs i 0 ≡ 10 → line_length (drop i xs) ≡ 0
-found xs i h e = let z : eqb (get_or xs i 0) 10 ≡ true = eq-eqb _ 10 e in rw (drop-cons xs i 0 h) (simp z)
+-- how many bytes stand before the first newline is its place, or the length where there is none
+line_is : (bs : List ℕ) → line_length bs ≡ position_or_len (λ b. eqb b 10) bs
+line_is bs = is_position_or_len line_length (λ b. eqb b 10) refl (λ b bs. grind arith) bs
 
-pub passed : (xs : List ℕ) (i : ℕ) → i < length xs → (get_or xs i 0 ≡ 10 → ⊥) → i + line_length (drop i xs) ≡ (i + 1) + line_length (drop (i + 1) xs)
-passed xs i h n =
-    let z : eqb (get_or xs i 0) 10 ≡ false = ne_eqb _ 10 n in
-    let s : line_length (drop i xs) ≡ suc (line_length (drop (suc i) xs)) = rw (drop-cons xs i 0 h) (simp z) in
-    rw add-one (omega (arith, s))
-
-pub all_passed : (xs : List ℕ) → line_length (drop (length xs) xs) ≡ 0
-all_passed xs = rw (drop_all (length xs) xs (omega arith)) refl
+pub line_found : (bs : List ℕ) → unwrap_or (position (λ b. eqb b 10) bs) (length bs) ≡ line_length bs
+line_found bs =
+    let e = line_is bs in
+    elim (cases_lt (position_or_len (λ b. eqb b 10) bs) (length bs)) [
+      | inl h ↦ rw (lt-ltb _ _ h) (sym e)
+      | inr h ↦ let most = prefix_len-le-length (λ b. not (eqb b 10)) bs in rw (le-ltb _ _ h) (omega arith)
+    ]
 
 -- ── the lines ──
 

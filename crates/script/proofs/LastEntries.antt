@@ -9,6 +9,7 @@ use Rattle.planboard.specs.Boards.{enter_answer, entered_by}
 use Rattle.planboard.specs.Laws.{OnlySlotChanged}
 use Rattle.planboard.specs.Slots.{slot_count, slot_at, written}
 use Rattle.planboard.proofs.Written.{set_law, set_written}
+use Rattle.reading.specs.declared.Misread.{Misread}
 use Rattle.script.specs.declared.line.SpanLine.{SpanLine}
 use Rattle.script.specs.Scanning.{read_line}
 use Rattle.script.specs.Scripts.{line_answer, line_after, spans_after, Enters, HoldsLast}
@@ -37,18 +38,18 @@ changed spans slot text s e =
 
 module _ (spans : List (Option Span)) (line : List ℕ) (slot : ℕ) where
   -- a line that isn't in form
-  by_form : (place : ℕ) → read_line line ≡ Err place → Effect spans line slot (line_after spans line)
-  by_form place e = inr (
+  by_form : (m : Misread) → read_line line ≡ Err m → Effect spans line slot (line_after spans line)
+  by_form m e = inr (
     (λ s n. let z : ◌≡◌ {A = ℕ} 0 1 = cc (e, n.reads) in omega arith),
-    ap (λ r. slot_at 256 (elim r [ Ok v ↦ entered_by spans v.slot (enter_answer spans v.slot (drop v.text line)) | Err place ↦ spans ]) slot) e,
+    ap (λ r. slot_at 256 (elim r [ Ok v ↦ entered_by spans v.slot (enter_answer spans v.slot (drop v.text line)) | Err m ↦ spans ]) slot) e,
   )
 
   module _ (v : SpanLine) (form : read_line line ≡ Ok v) where
     answer_is : line_answer spans line ≡ enter_answer spans v.slot (drop v.text line)
-    answer_is = ap (λ r. elim r [ Ok v ↦ enter_answer spans v.slot (drop v.text line) | Err place ↦ Err (Unreadable place) ]) form
+    answer_is = ap (λ r. elim r [ Ok v ↦ enter_answer spans v.slot (drop v.text line) | Err m ↦ Err (Unreadable m.at) ]) form
 
     after_is : line_after spans line ≡ entered_by spans v.slot (enter_answer spans v.slot (drop v.text line))
-    after_is = ap (λ r. elim r [ Ok v ↦ entered_by spans v.slot (enter_answer spans v.slot (drop v.text line)) | Err place ↦ spans ]) form
+    after_is = ap (λ r. elim r [ Ok v ↦ entered_by spans v.slot (enter_answer spans v.slot (drop v.text line)) | Err m ↦ spans ]) form
 
     same_form : (s : Span) (n : Enters spans line slot s) → n.form ≡ v
     same_form s n = let e = n.reads in cc
@@ -73,9 +74,9 @@ module _ (spans : List (Option Span)) (line : List ℕ) (slot : ℕ) where
           )
         ]
 
-  effect : (r : Result SpanLine ℕ) → read_line line ≡ r → Effect spans line slot (line_after spans line)
+  effect : (r : Result SpanLine Misread) → read_line line ≡ r → Effect spans line slot (line_after spans line)
   effect (Ok v) e = by_call v e (enter_answer spans v.slot (drop v.text line)) refl
-  effect (Err place) e = by_form place e
+  effect (Err m) e = by_form m e
 
 -- one line more at the front
 holds_more : (slot : ℕ) (spans : List (Option Span)) (line : List ℕ) (lines : List (List ℕ)) (o : Option Span)

@@ -2,6 +2,7 @@
 use Rattle.std.proofs.Common.{◌≡◌, ℕ, suc, ◌+◌, ◌-◌, ◌*◌, ◌^◌, ◌<◌, ◌≤◌, List, [], ◌∷◌, ◌++◌, length, Some, Ok, Result, sym, refl, ap, ◌∙◌, arith}
 use Rattle.std.proofs.lemmas.Bool.Decides.{nat_tests}
 use Rattle.reading.specs.Digits.{value_on, AllDigits, Digits}
+use Rattle.reading.specs.declared.Misread.{Misread}
 use Rattle.reading.specs.Reading.{read_on}
 use Rattle.reading.proofs.Figures.{digit_more, ten_le}
 use Rattle.reading.proofs.Machines.{go as go_on}
@@ -11,7 +12,7 @@ use Rattle.script.specs.declared.line.SpanLine.{SpanLine}
 use Rattle.script.specs.Lines.{NoSpace, Word, IsSpanLine}
 use Rattle.script.specs.Scanning.{stepped, ended}
 
-abbrev read : Progress → ℕ → List ℕ → Result SpanLine ℕ
+abbrev read : Progress → ℕ → List ℕ → Result SpanLine Misread
 read = read_on stepped ended
 
 go : (s t : Progress) (a b : ℕ) (bs : List ℕ) → stepped s a b ≡ Some t → read s a (b ∷ bs) ≡ read t (a + 1) bs

@@ -2,7 +2,8 @@
 use Rattle.std.proofs.Common.{◌≡◌, ℕ, ◌+◌, ◌-◌, ◌*◌, Bool, true, false, cond, ◌&&◌, eqb, ltb, leb, List, [], ◌∷◌, ◌++◌, length, Some, None, Ok, Err, codes, Option, Result, sym, refl, ap, ◌∙◌, subst, inl, inr, append_assoc, append-nil, arith, length-append}
 use Rattle.std.proofs.lemmas.Bool.{and_parts, eqb-true, eqb-false, ltb-true, leb-true}
 use Rattle.reading.specs.Digits.{is_digit, value_on, Digits}
-use Rattle.reading.specs.Reading.{read_on}
+use Rattle.reading.specs.declared.Misread.{Misread}
+use Rattle.reading.specs.Reading.{misread, read_on}
 use Rattle.reading.proofs.Figures.{value_push, length_push, digits_push, one_digit, digit_tells}
 use Rattle.reading.proofs.Machines.{none_some, err_ok, cond_some, first_step}
 use Rattle.script.specs.declared.line.Progress.{Progress}
@@ -110,7 +111,7 @@ whole v (at_text ds text q w) e =
     subst (IsSpanLine (codes "span " ++ (ds ++ (32 ∷ text)))) same (record { digits = ds; text = text; is = refl; number = q; word = w; slot = refl; place = refl })
 
 at_end : (p : List ℕ) (s : Progress) (a : ℕ) (v : SpanLine) (o : Option SpanLine) → ended s ≡ o → Reads p s
-    → ◌≡◌ {A = Result SpanLine ℕ} (elim o [ Some w ↦ Ok w | None ↦ Err a ]) (Ok v) → IsSpanLine p v
+    → ◌≡◌ {A = Result SpanLine Misread} (elim o [ Some w ↦ Ok w | None ↦ Err (misread a) ]) (Ok v) → IsSpanLine p v
 at_end p s a v (Some w) e h r = let same : w ≡ v = cc in subst (IsSpanLine p) same (whole w h e)
 at_end p s a v None e h r = err_ok v a r
 

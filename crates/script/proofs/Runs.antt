@@ -8,6 +8,7 @@ use Rattle.timebase.specs.declared.span.Part.TheVariants.{Years, Months, Weeks, 
 use Rattle.timebase.specs.declared.span.Span.{Span}
 use Rattle.timebase.specs.declared.fault.Told.{Told}
 use Rattle.timebase.specs.Faults.{told}
+use Rattle.reading.specs.declared.Misread.{Misread}
 use Rattle.reading.specs.Places.{AnswersWithin}
 use Rattle.span_text.specs.Spans.{read_span, Answered}
 use Rattle.span_text.specs.Spans.Answered.{reads, unreadable, past}
@@ -56,10 +57,10 @@ enter_short spans slot text h = by (ltb slot (slot_count 256 spans))
     by true = text_short text (read_span text) (answered text) h
     by false = refusal_short (told (SlotOff 0)) (omega arith) (omega arith) (omega arith) (omega arith)
 
-form_short : (spans : List (Option Span)) (line : List ℕ) (r : Result SpanLine ℕ) → AnswersWithin IsSpanLine 160 line r → length line < 2 ^ 64
-    → length (answer_text (elim r [ Ok v ↦ enter_answer spans v.slot (drop v.text line) | Err place ↦ Err (Unreadable place) ])) ≤ 99
+form_short : (spans : List (Option Span)) (line : List ℕ) (r : Result SpanLine Misread) → AnswersWithin IsSpanLine 160 line r → length line < 2 ^ 64
+    → length (answer_text (elim r [ Ok v ↦ enter_answer spans v.slot (drop v.text line) | Err m ↦ Err (Unreadable m.at) ])) ≤ 99
 form_short spans line (Ok v) a h = enter_short spans v.slot (drop v.text line) (omega (arith, length-drop v.text line))
-form_short spans line (Err place) a h = refusal_short (told (Unreadable place)) (omega arith) (omega (arith, a.at)) (omega arith) (omega arith)
+form_short spans line (Err m) a h = refusal_short (told (Unreadable m.at)) (omega arith) (omega (arith, a.at)) (omega arith) (omega arith)
 
 line_short : (spans : List (Option Span)) (line : List ℕ) → length line < 2 ^ 64 → length (answer_text (line_answer spans line)) ≤ 99
 line_short spans line h = form_short spans line (read_line line) (line_answers line) h

@@ -1,6 +1,7 @@
 -- The steps by which a line is read.
 use Rattle.std.specs.Prelude.{ℕ, ◌+◌, ◌-◌, ◌*◌, cond, ◌&&◌, List, length, Some, None, Option, Result, ◌==◌, nat_lt}
 use Rattle.reading.specs.Digits.{is_digit}
+use Rattle.reading.specs.declared.Misread.{Misread}
 use Rattle.reading.specs.Reading.{read_on, limited}
 use Rattle.script.specs.declared.line.Progress.{Progress}
 use Rattle.script.specs.declared.line.Progress.TheVariants.{Command, Gap, Slot, Space, Text}
@@ -42,5 +43,5 @@ ended (Slot slot k) = None
 ended (Space slot) = None
 ended (Text slot text) = Some (record { slot = slot; text = text })
 
-abbrev pub read_line : List ℕ → Result SpanLine ℕ
+abbrev pub read_line : List ℕ → Result SpanLine Misread
 read_line line = limited 160 (length line) (read_on stepped ended (Command 0) 0 line)

@@ -33,10 +33,10 @@ script_lines input = lines_of (take 16384 input)
 -- ── one line ──
 
 abbrev pub line_answer : List (Option Span) → List ℕ → Result Span Fault
-line_answer spans line = elim (read_line line) [ Ok v ↦ enter_answer spans v.slot (drop v.text line) | Err place ↦ Err (Unreadable place) ]
+line_answer spans line = elim (read_line line) [ Ok v ↦ enter_answer spans v.slot (drop v.text line) | Err m ↦ Err (Unreadable m.at) ]
 
 abbrev pub line_after : List (Option Span) → List ℕ → List (Option Span)
-line_after spans line = elim (read_line line) [ Ok v ↦ entered_by spans v.slot (enter_answer spans v.slot (drop v.text line)) | Err place ↦ spans ]
+line_after spans line = elim (read_line line) [ Ok v ↦ entered_by spans v.slot (enter_answer spans v.slot (drop v.text line)) | Err m ↦ spans ]
 
 -- a number after a space
 abbrev pub word_text : ℕ → List ℕ

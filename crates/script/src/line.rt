@@ -4,7 +4,7 @@ ghost use Rattle.reading.specs.Places.{AnswersWithin};
 ghost use Rattle.script.specs.Lines.{IsSpanLine};
 ghost use Rattle.script.specs.Scanning.{expected, in_command, in_gap, in_slot, in_space, in_text, stepped, ended, read_line};
 
-use reading::{Scan, read, within_limit};
+use reading::{Misread, Scan, read_within};
 
 // The most bytes of a line.
 pub const LINE_LIMIT: usize = 160;
@@ -19,16 +19,16 @@ pub struct SpanLine {
 // How far a line has been read. Every value can be read on to a whole line, also one that no line leads to.
 #[derive(Clone, Copy)]
 pub enum Progress {
-    // so many bytes of `span`, then a space
-    Command(u8),
+    // in `span` and the space after it, of which so many bytes are read
+    Command { read: u8 },
     // a slot's first digit has to follow
     Gap,
-    // in a slot: its value so far, and how many digits
-    Slot(u16, u8),
+    // in a slot: its value so far
+    Slot { slot: u16, digits: u8 },
     // a text has to begin, after the slot
-    Space(u16),
-    // in a text: the slot, and the text's place
-    Text(u16, usize),
+    Space { slot: u16 },
+    // in a text, which began at a place
+    Text { slot: u16, at: usize },
 }
 
 // The byte that follows so many bytes of the command.
@@ -44,13 +44,13 @@ fn expected_byte(k: u8) -> u8
     }
 }
 
-fn command_step(k: u8, byte: u8) -> Option<Progress>
-    ensures { result ≡ in_command k byte }
+fn command_step(read: u8, byte: u8) -> Option<Progress>
+    ensures { result ≡ in_command read byte }
 {
-    if byte != expected_byte(k) {
+    if byte != expected_byte(read) {
         None
-    } else if k < 4 {
-        Some(Progress::Command(k + 1))
+    } else if read < 4 {
+        Some(Progress::Command { read: read + 1 })
     } else {
         Some(Progress::Gap)
     }
@@ -60,19 +60,25 @@ fn gap_step(byte: u8) -> Option<Progress>
     ensures { result ≡ in_gap byte }
 {
     match byte as char {
-        '0'..='9' => Some(Progress::Slot((byte - b'0') as u16, 1)),
+        '0'..='9' => Some(Progress::Slot {
+            slot: u16::from(byte - b'0'),
+            digits: 1,
+        }),
         _ => None,
     }
 }
 
-fn slot_step(slot: u16, k: u8, byte: u8) -> Option<Progress>
-    ensures { result ≡ in_slot slot k byte }
+fn slot_step(slot: u16, digits: u8, byte: u8) -> Option<Progress>
+    ensures { result ≡ in_slot slot digits byte }
 {
     match byte as char {
-        '0'..='9' if k < 3 && slot < 100 => {
-            Some(Progress::Slot(slot * 10 + (byte - b'0') as u16, k + 1))
+        '0'..='9' if digits < 3 && slot < 100 => {
+            Some(Progress::Slot {
+                slot: slot * 10 + u16::from(byte - b'0'),
+                digits: digits + 1,
+            })
         }
-        ' ' => Some(Progress::Space(slot)),
+        ' ' => Some(Progress::Space { slot }),
         _ => None,
     }
 }
@@ -82,16 +88,16 @@ fn space_step(slot: u16, at: usize, byte: u8) -> Option<Progress>
 {
     match byte as char {
         ' ' => None,
-        _ => Some(Progress::Text(slot, at)),
+        _ => Some(Progress::Text { slot, at }),
     }
 }
 
-fn text_step(slot: u16, text: usize, byte: u8) -> Option<Progress>
-    ensures { result ≡ in_text slot text byte }
+fn text_step(slot: u16, at: usize, byte: u8) -> Option<Progress>
+    ensures { result ≡ in_text slot at byte }
 {
     match byte as char {
         ' ' => None,
-        _ => Some(Progress::Text(slot, text)),
+        _ => Some(Progress::Text { slot, at }),
     }
 }
 
@@ -104,33 +110,26 @@ impl Scan for Progress {
 
     fn step(self, at: usize, byte: u8) -> Option<Progress> {
         match self {
-            Progress::Command(k) => command_step(k, byte),
+            Progress::Command { read } => command_step(read, byte),
             Progress::Gap => gap_step(byte),
-            Progress::Slot(slot, k) => slot_step(slot, k, byte),
-            Progress::Space(slot) => space_step(slot, at, byte),
-            Progress::Text(slot, text) => text_step(slot, text, byte),
+            Progress::Slot { slot, digits } => slot_step(slot, digits, byte),
+            Progress::Space { slot } => space_step(slot, at, byte),
+            Progress::Text { slot, at: text } => text_step(slot, text, byte),
         }
     }
 
     fn end(self) -> Option<SpanLine> {
         match self {
-            Progress::Text(slot, text) => Some(SpanLine { slot, text }),
+            Progress::Text { slot, at } => Some(SpanLine { slot, text: at }),
             _ => None,
         }
     }
 }
 
-// What a line says, or the place at which it goes wrong: the length of its longest viable prefix, or the limit where
-// that is less.
-pub fn read_line(line: &[u8]) -> Result<SpanLine, usize>
+// What a line says, or where it goes wrong: the length of its longest viable prefix, or the limit where that is less.
+pub fn read_line(line: &[u8]) -> Result<SpanLine, Misread>
     ensures value { result ≡ read_line line.now }
     ensures grammar { AnswersWithin IsSpanLine 160 line.now result }
 {
-    scan_line(line)
-}
-
-fn scan_line(line: &[u8]) -> Result<SpanLine, usize>
-    ensures { result ≡ read_line line.now }
-{
-    within_limit(read(Progress::Command(0), line), line.len(), LINE_LIMIT)
+    read_within(Progress::Command { read: 0 }, line, LINE_LIMIT)
 }

@@ -8,12 +8,7 @@ fn line_length(text: &[u8]) -> usize
     ensures value { result ≡ line_length text.now }
     ensures within { result ≤ length text.now }
 {
-    for (i, byte) in text.iter().enumerate() {
-        if *byte == b'\n' {
-            return i;
-        }
-    }
-    text.len()
+    text.iter().position(|b| *b == b'\n').unwrap_or(text.len())
 }
 
 // The first line of a text, and the text after it; none where nothing is left.

@@ -4,15 +4,15 @@ ghost use Rattle.planboard.specs.Boards.{span_memory, span_lender};
 ghost use Rattle.script.specs.Scripts.{answer_text, line_answer, line_after, lines_of, output, refusal_text, room_of, run_answer, run_out, run_spans};
 ghost use Rattle.script.specs.Scripts.{script_lines, RunKeeps, word_text};
 ghost use Rattle.timebase.specs.Faults.{told};
-ghost use Rattle.writing.specs.Placing.{Placed};
+ghost use Rattle.writing.specs.Putting.{Puts};
 
 use crate::line::read_line;
 use crate::lines::next_line;
 use planboard::board::Board;
-use span_text::write::put_span;
+use span_text::write::put_text;
 use timebase::fault::{Fault, Told};
 use timebase::span::Span;
-use writing::{put_byte, put_bytes, put_number};
+use writing::Writer;
 
 // The most bytes of a script; what comes after them doesn't count.
 pub const SCRIPT_LIMIT: usize = 16_384;
@@ -25,11 +25,7 @@ fn script_of(input: &[u8]) -> &[u8]
     ensures value { result.now ≡ take 16384 input.now }
     ensures small { length result.now ≤ 16384 }
 {
-    if input.len() > SCRIPT_LIMIT {
-        &input[0..SCRIPT_LIMIT]
-    } else {
-        input
-    }
+    &input[..input.len().min(SCRIPT_LIMIT)]
 }
 
 // How many lines a text has.
@@ -57,10 +53,7 @@ pub fn room_for(input: &[u8]) -> usize
 fn from_place(line: &[u8], place: usize) -> &[u8]
     ensures { result.now ≡ drop place line.now }
 {
-    if place > line.len() {
-        return &[];
-    }
-    &line[place..]
+    line.get(place..).unwrap_or_default()
 }
 
 // Makes the call that a line says, and answers the span that was entered.
@@ -69,40 +62,38 @@ fn call_line(board: &mut Board, line: &[u8]) -> Result<Span, Fault>
     ensures state { span_memory board.new ≡ line_after (span_memory board.old) line.now }
     ensures lent { span_lender board.new ≡ span_lender board.old }
 {
-    match read_line(line) {
-        Ok(form) => board.enter(form.slot as usize, from_place(line, form.text)),
-        Err(at) => Err(Fault::Unreadable { at }),
-    }
+    let form = read_line(line)?;
+    board.enter(usize::from(form.slot), from_place(line, form.text))
 }
 
 // Puts a number after a space.
-fn put_word(out: &mut [u8], at: usize, n: u64) -> usize
-    ensures { Placed out.old at (word_text n) out.new result }
+fn put_word(writer: &mut Writer, n: u64)
+    ensures { Puts writer.old (word_text n) writer.new }
 {
-    let next = put_byte(out, at, b' ');
-    put_number(out, next, n)
+    writer.put_byte(b' ');
+    writer.put_number(n);
 }
 
 // Puts what a refusal tells.
-fn put_refusal(out: &mut [u8], at: usize, told: Told) -> usize
-    ensures { Placed out.old at (refusal_text told) out.new result }
+fn put_refusal(writer: &mut Writer, told: Told)
+    ensures { Puts writer.old (refusal_text told) writer.new }
 {
-    let number = put_bytes(out, at, b"no");
-    let place = put_word(out, number, told.number as u64);
-    let cause = put_word(out, place, told.place as u64);
-    let depth = put_word(out, cause, told.cause as u64);
-    put_word(out, depth, told.depth as u64)
+    writer.put_bytes(b"no");
+    put_word(writer, u64::from(told.number));
+    put_word(writer, told.place as u64);
+    put_word(writer, u64::from(told.cause));
+    put_word(writer, u64::from(told.depth));
 }
 
 // Puts the line that answers a call.
-fn put_answer(out: &mut [u8], at: usize, answer: Result<Span, Fault>) -> usize
-    ensures { Placed out.old at (answer_text answer ++ (10 ∷ [])) out.new result }
+fn put_answer(writer: &mut Writer, answer: Result<Span, Fault>)
+    ensures { Puts writer.old (answer_text answer ++ (10 ∷ [])) writer.new }
 {
-    let end = match answer {
-        Ok(span) => put_span(out, at, &span),
-        Err(fault) => put_refusal(out, at, fault.told()),
-    };
-    put_byte(out, end, b'\n')
+    match answer {
+        Ok(span) => put_text(writer, &span),
+        Err(fault) => put_refusal(writer, fault.told()),
+    }
+    writer.put_byte(b'\n');
 }
 
 // Runs a script: makes the call of each line, puts the answers into the buffer, and answers their length. A buffer
@@ -118,12 +109,11 @@ pub fn run_script(board: &mut Board, input: &[u8], out: &mut [u8]) -> Result<usi
     if out.len() < room_for(input) {
         return Err(Fault::BufferSmall);
     }
+    let mut writer = Writer { out, at: 0 };
     let mut left = script;
-    let mut at = 0;
     while let Some((line, rest)) = next_line(left) {
-        let answer = call_line(board, line);
-        at = put_answer(out, at, answer);
+        put_answer(&mut writer, call_line(board, line));
         left = rest;
     }
-    Ok(at)
+    Ok(writer.at)
 }

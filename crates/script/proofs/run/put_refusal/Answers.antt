@@ -1,7 +1,8 @@
-use Rattle.writing.proofs.Placings.{placed_more}
+use Rattle.writing.proofs.Puttings.{puts_more}
 use Rattle.script.proofs.run.put_refusal.Goals as goal
 
 pub returns : goal.returns
 returns c =
-    placed_more c.put_bytes-number.ensures
-    (placed_more c.put_word-place.ensures (placed_more c.put_word-cause.ensures (placed_more c.put_word-depth.ensures c.put_word.ensures)))
+    puts_more c.put_bytes.ensures
+    (puts_more (rw c.from.ensures at c.put_word.ensures)
+    (puts_more c.put_word-2.ensures (puts_more (rw c.from-2.ensures at c.put_word-3.ensures) (rw c.from-3.ensures at c.put_word-4.ensures))))

@@ -1,5 +1,5 @@
-use Rattle.writing.proofs.Placings.{placed_more}
+use Rattle.writing.proofs.Puttings.{puts_more}
 use Rattle.script.proofs.run.put_word.Goals as goal
 
 pub returns : goal.returns
-returns c = placed_more c.put_byte-next.ensures c.put_number.ensures
+returns c = puts_more c.put_byte.ensures c.put_number.ensures
