@@ -1,5 +1,5 @@
 -- A text is its first line and the lines after it.
-use Rattle.std.proofs.Common.{◌≡◌, ℕ, suc, ◌+◌, ◌-◌, ◌<◌, ◌≤◌, Bool, true, false, not, eqb, inl, inr, List, [], ◌∷◌, ◌++◌, length, take, drop, sym, refl, ap, ◌∙◌, append_assoc, append-nil, arith, length-drop, length-take}
+use Rattle.std.proofs.Common.{◌≡◌, ℕ, suc, ◌+◌, ◌-◌, ◌<◌, ◌≤◌, Bool, true, false, not, cond, eqb, inl, inr, List, [], ◌∷◌, ◌++◌, length, take, drop, sym, refl, ap, ◌∙◌, append_assoc, append-nil, arith, length-append, length-drop}
 use Rattle.std.proofs.lemmas.List.{drop-drop, drop_all, take_rest}
 use Rattle.std.proofs.lemmas.Bool.{lt-ltb, le-ltb, cases_lt}
 use Rattle.std.specs.Option.{unwrap_or}
@@ -54,20 +54,48 @@ module _ (text line rest : List ℕ) (end : ℕ) (some : 0 < length text) (is : 
   cut : rest ≡ drop (end + 1) text → lines_of text ≡ line ∷ lines_of rest
   cut back = first_line text some ∙ (ap (λ n. take n text ∷ lines_of (drop (n + 1) text)) (sym is) ∙ rw (front, back) refl)
 
-  short : length line ≤ length text
-  short = omega (arith, ap length front, length-take end text)
+  pub cut_at : (back : List ℕ) → back ≡ drop end text → 0 < length back → rest ≡ take (length back - 1) (drop 1 back) → lines_of text ≡ line ∷ lines_of rest
+  cut_at back e m r = cut (r ∙ (take_rest back 1 ∙ (ap (drop 1) e ∙ drop-drop 1 end text)))
 
-  pub cut_at : (back : List ℕ) → back ≡ drop end text → 0 < length back → rest ≡ take (length back - 1) (drop 1 back) → (lines_of text ≡ line ∷ lines_of rest) × (length rest < length text) × (length line ≤ length text)
-  cut_at back e m r =
-      let x : rest ≡ drop (end + 1) text = r ∙ (take_rest back 1 ∙ (ap (drop 1) e ∙ drop-drop 1 end text)) in
-      (cut x, omega (arith, ap length x, length-drop (end + 1) text), short)
-
-  pub cut_all : rest ≡ drop end text → length rest ≡ 0 → (lines_of text ≡ line ∷ lines_of rest) × (length rest < length text) × (length line ≤ length text)
+  pub cut_all : rest ≡ drop end text → length rest ≡ 0 → lines_of text ≡ line ∷ lines_of rest
   cut_all e z =
       let l : length text ≤ end + 1 = omega (arith, ap length e, length-drop end text) in
-      let x : rest ≡ drop (end + 1) text = nothing rest z ∙ sym (drop_all (end + 1) text l) in
-      (cut x, omega arith, short)
+      cut (nothing rest z ∙ sym (drop_all (end + 1) text l))
 
 pub no_lines : lines_of [] ≡ []
 unfolding lines_of
 no_lines = refl
+
+-- ── how many lines a text has at most, and how long they are ──
+
+-- no line is longer than n bytes
+abbrev pub Short : ℕ → List (List ℕ) → Type 0
+Short n [] = Unit {0}
+Short n (line ∷ lines) = (length line ≤ n) × Short n lines
+
+few_on : (line bs : List ℕ) → length (lines_on line bs) ≤ length line + length bs
+few_on [] [] = omega arith
+few_on (c ∷ cs) [] = omega arith
+few_on line (b ∷ bs) = by (eqb b 10) (few_on [] bs) (few_on (line ++ (b ∷ [])) bs)
+  where
+    by : (x : Bool) → length (lines_on [] bs) ≤ 0 + length bs → length (lines_on (line ++ (b ∷ [])) bs) ≤ length (line ++ (b ∷ [])) + length bs
+        → length (cond x (line ∷ lines_on [] bs) (lines_on (line ++ (b ∷ [])) bs)) ≤ length line + length (b ∷ bs)
+    by true h k = omega (arith, h)
+    by false h k = omega (arith, k, length-append line (b ∷ []))
+
+pub few_lines : (text : List ℕ) → length (lines_of text) ≤ length text
+unfolding lines_of
+few_lines text = omega (arith, few_on [] text)
+
+short_on : (n : ℕ) (line bs : List ℕ) → length line + length bs ≤ n → Short n (lines_on line bs)
+short_on n [] [] h = tt
+short_on n (c ∷ cs) [] h = (omega (arith, h), tt)
+short_on n line (b ∷ bs) h = by (eqb b 10) (short_on n [] bs (omega (arith, h))) (short_on n (line ++ (b ∷ [])) bs (omega (arith, h, length-append line (b ∷ []))))
+  where
+    by : (x : Bool) → Short n (lines_on [] bs) → Short n (lines_on (line ++ (b ∷ [])) bs) → Short n (cond x (line ∷ lines_on [] bs) (lines_on (line ++ (b ∷ [])) bs))
+    by true more on = (omega (arith, h), more)
+    by false more on = on
+
+pub short_lines : (n : ℕ) (text : List ℕ) → length text ≤ n → Short n (lines_of text)
+unfolding lines_of
+short_lines n text h = short_on n [] text (omega (arith, h))

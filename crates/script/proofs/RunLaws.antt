@@ -1,10 +1,10 @@
 -- What running a script answers and leaves.
-use Rattle.std.proofs.Common.{◌≡◌, ℕ, ◌*◌, ◌≤◌, false, ltb, List, [], length, take, Ok, Option, Result, sym, ap, subst}
+use Rattle.std.proofs.Common.{◌≡◌, ℕ, ◌*◌, ◌≤◌, false, ltb, List, [], length, Ok, Option, Result, sym, ap, subst}
 use Rattle.std.proofs.lemmas.Bool.{le-ltb}
 use Rattle.timebase.specs.declared.fault.Fault.{Fault}
 use Rattle.timebase.specs.declared.span.Span.{Span}
 use Rattle.planboard.specs.Slots.{slot_at}
-use Rattle.script.specs.Scripts.{lines_of, script_lines, room_of, run_answer, run_out, run_spans, HoldsLast, RunKeeps}
+use Rattle.script.specs.Scripts.{script_lines, room_of, run_answer, run_out, run_spans, HoldsLast, RunKeeps}
 use Rattle.script.proofs.Runs.{Ended, Going, going_end}
 use Rattle.script.proofs.LastEntries.{holds_last}
 
@@ -15,7 +15,7 @@ pub record Ran (before : List (Option Span)) (input room : List ℕ) (spans : Li
   pub law : RunKeeps before input (Ok at) spans
 
 ran_all : (before : List (Option Span)) (input room : List ℕ) (spans : List (Option Span)) (out : List ℕ) (at : ℕ)
-    → room_of (script_lines input) ≤ length room → Ended before room (take 16384 input) spans out at → Ran before input room spans out at
+    → room_of (script_lines input) ≤ length room → Ended before room (script_lines input) spans out at → Ran before input room spans out at
 ran_all before input room spans out at enough e =
     let b : ltb (length room) (room_of (script_lines input)) ≡ false = le-ltb (length room) (room_of (script_lines input)) enough in
     record {
@@ -25,8 +25,8 @@ ran_all before input room spans out at enough e =
       law = λ slot. subst (λ z. HoldsLast slot before (script_lines input) (slot_at 256 z slot)) (sym e.spans_is) (holds_last slot before (script_lines input));
     }
 
-pub ran : {before : List (Option Span)} {room script : List ℕ} {spans : List (Option Span)} {out : List ℕ} {at : ℕ} {left : List ℕ} (input : List ℕ)
-    → Going before room script spans out at left → left ≡ [] → script ≡ take 16384 input → room_of (script_lines input) ≤ length room → Ran before input room spans out at
+pub ran : {before : List (Option Span)} {room : List ℕ} {script : List (List ℕ)} {spans : List (Option Span)} {out : List ℕ} {at : ℕ} {left : List (List ℕ)} (input : List ℕ)
+    → Going before room script spans out at left → left ≡ [] → script ≡ script_lines input → room_of (script_lines input) ≤ length room → Ran before input room spans out at
 ran {before} {room} {script} {spans} {out} {at} input g none is enough =
     ran_all before input room spans out at enough
-    (subst (λ z. Ended before room z spans out at) is (going_end g none (subst (λ z. 100 * length (lines_of z) ≤ length room) (sym is) enough)))
+    (subst (λ z. Ended before room z spans out at) is (going_end g none (subst (λ z. 100 * length z ≤ length room) (sym is) enough)))

@@ -21,8 +21,8 @@ use Rattle.writing.proofs.Placings.{placed_more, placed_none, placed_start}
 use Rattle.script.specs.declared.line.SpanLine.{SpanLine}
 use Rattle.script.specs.Lines.{IsSpanLine}
 use Rattle.script.specs.Scanning.{read_line}
-use Rattle.script.specs.Scripts.{lines_of, line_answer, line_after, word_text, refusal_text, answer_text, spans_after, output}
-use Rattle.script.proofs.Cuts.{no_lines}
+use Rattle.script.specs.Scripts.{line_answer, line_after, word_text, refusal_text, answer_text, spans_after, output}
+use Rattle.script.proofs.Cuts.{Short}
 use Rattle.script.proofs.LineAnswers.{line_answers}
 
 -- ── no answer needs more than its room ──
@@ -68,51 +68,49 @@ line_short spans line h = form_short spans line (read_line line) (line_answers l
 -- ── the loop ──
 
 -- so much of the output stands in the buffer, and the lines that are left give the rest
-pub record Going (before : List (Option Span)) (room : List ℕ) (script : List ℕ) (spans : List (Option Span)) (out : List ℕ) (at : ℕ) (left : List ℕ) : Type 0 where
+pub record Going (before : List (Option Span)) (room : List ℕ) (script : List (List ℕ)) (spans : List (Option Span)) (out : List ℕ) (at : ℕ) (left : List (List ℕ)) : Type 0 where
   pub done : List ℕ
   pub placed : Placed room 0 done out at
-  pub text : done ++ output spans (lines_of left) ≡ output before (lines_of script)
-  pub slots : spans_after spans (lines_of left) ≡ spans_after before (lines_of script)
-  pub small : length left < 2 ^ 64
-  pub few : length done + 100 * length (lines_of left) ≤ 100 * length (lines_of script)
+  pub text : done ++ output spans left ≡ output before script
+  pub slots : spans_after spans left ≡ spans_after before script
+  pub short : Short 16384 left
+  pub few : length done + 100 * length left ≤ 100 * length script
 
-pub going_first : (before : List (Option Span)) (room script : List ℕ) → length script < 2 ^ 64 → Going before room script before room 0 script
-going_first before room script h = record { done = []; placed = placed_none room 0; text = refl; slots = refl; small = h; few = omega arith }
+pub going_first : (before : List (Option Span)) (room : List ℕ) (script : List (List ℕ)) → Short 16384 script → Going before room script before room 0 script
+going_first before room script h = record { done = []; placed = placed_none room 0; text = refl; slots = refl; short = h; few = omega arith }
 
-pub going_on : {before : List (Option Span)} {room script : List ℕ} {spans : List (Option Span)} {out : List ℕ} {at : ℕ} {left : List ℕ}
-    → Going before room script spans out at left → (line rest : List ℕ) → lines_of left ≡ line ∷ lines_of rest → length rest < length left → length line ≤ length left
+pub going_on : {before : List (Option Span)} {room : List ℕ} {script : List (List ℕ)} {spans : List (Option Span)} {out : List ℕ} {at : ℕ}
+    → (line : List ℕ) (rest : List (List ℕ)) → Going before room script spans out at (line ∷ rest)
     → (spans' : List (Option Span)) → spans' ≡ line_after spans line → (out' : List ℕ) (at' : ℕ) → Placed out at (answer_text (line_answer spans line) ++ (10 ∷ [])) out' at'
     → Going before room script spans' out' at' rest
 unfolding output spans_after
-going_on {before} {room} {script} {spans} {out} {at} {left} g line rest cut fewer short spans' same out' at' p =
+going_on {before} {room} {script} {spans} {out} {at} line rest g spans' same out' at' p =
     let a = answer_text (line_answer spans line) in
-    let s = line_short spans line (omega (arith, g.small)) in
+    let s = line_short spans line (omega (arith, g.short.0)) in
     record {
       done = g.done ++ (a ++ (10 ∷ []));
       placed = placed_more g.placed p;
       text =
-          ap (λ (z : List (Option Span)). (g.done ++ (a ++ (10 ∷ []))) ++ output z (lines_of rest)) same
-          ∙ (append_assoc g.done (a ++ (10 ∷ [])) _ ∙ (ap (λ (z : List ℕ). g.done ++ z) (append_assoc a (10 ∷ []) _)
-          ∙ (ap (λ (z : List (List ℕ)). g.done ++ output spans z) (sym cut) ∙ g.text)));
-      slots = ap (λ (z : List (Option Span)). spans_after z (lines_of rest)) same ∙ (ap (spans_after spans) (sym cut) ∙ g.slots);
-      small = omega (arith, g.small);
-      few = simp length-append (omega (arith, g.few, ap length cut, s));
+          ap (λ (z : List (Option Span)). (g.done ++ (a ++ (10 ∷ []))) ++ output z rest) same
+          ∙ (append_assoc g.done (a ++ (10 ∷ [])) _ ∙ (ap (λ (z : List ℕ). g.done ++ z) (append_assoc a (10 ∷ []) _) ∙ g.text));
+      slots = ap (λ (z : List (Option Span)). spans_after z rest) same ∙ g.slots;
+      short = g.short.1;
+      few = simp length-append (omega (arith, g.few, s));
     }
 
-pub record Ended (before : List (Option Span)) (room : List ℕ) (script : List ℕ) (spans : List (Option Span)) (out : List ℕ) (at : ℕ) : Type 0 where
-  pub at_is : at ≡ length (output before (lines_of script))
-  pub out_is : out ≡ output before (lines_of script) ++ drop (length (output before (lines_of script))) room
-  pub spans_is : spans ≡ spans_after before (lines_of script)
+pub record Ended (before : List (Option Span)) (room : List ℕ) (script : List (List ℕ)) (spans : List (Option Span)) (out : List ℕ) (at : ℕ) : Type 0 where
+  pub at_is : at ≡ length (output before script)
+  pub out_is : out ≡ output before script ++ drop (length (output before script)) room
+  pub spans_is : spans ≡ spans_after before script
 
-pub going_end : {before : List (Option Span)} {room script : List ℕ} {spans : List (Option Span)} {out : List ℕ} {at : ℕ} {left : List ℕ}
-    → Going before room script spans out at left → left ≡ [] → 100 * length (lines_of script) ≤ length room → Ended before room script spans out at
+pub going_end : {before : List (Option Span)} {room : List ℕ} {script : List (List ℕ)} {spans : List (Option Span)} {out : List ℕ} {at : ℕ} {left : List (List ℕ)}
+    → Going before room script spans out at left → left ≡ [] → 100 * length script ≤ length room → Ended before room script spans out at
 unfolding output spans_after
 going_end {before} {room} {script} {spans} {out} {at} {left} g none enough =
-    let n : lines_of left ≡ [] = ap lines_of none ∙ no_lines in
-    let t : g.done ≡ output before (lines_of script) = sym (append-nil g.done) ∙ (ap (λ (z : List (List ℕ)). g.done ++ output spans z) (sym n) ∙ g.text) in
+    let t : g.done ≡ output before script = sym (append-nil g.done) ∙ (ap (λ (z : List (List ℕ)). g.done ++ output spans z) (sym none) ∙ g.text) in
     let all = placed_start g.placed (omega (arith, g.few)) in
     record {
       at_is = all.0 ∙ ap length t;
       out_is = all.1 ∙ ap (λ (z : List ℕ). z ++ drop (length z) room) t;
-      spans_is = ap (spans_after spans) (sym n) ∙ g.slots;
+      spans_is = ap (spans_after spans) (sym none) ∙ g.slots;
     }

@@ -7,7 +7,7 @@ ghost use Rattle.timebase.specs.Faults.{told};
 ghost use Rattle.writing.specs.Putting.{Puts};
 
 use crate::line::read_line;
-use crate::lines::next_line;
+use crate::lines::Lines;
 use planboard::board::Board;
 use span_text::write::put_text;
 use timebase::fault::{Fault, Told};
@@ -33,13 +33,7 @@ fn count_lines(text: &[u8]) -> usize
     ensures value { result ≡ length (lines_of text.now) }
     ensures few { result ≤ length text.now }
 {
-    let mut left = text;
-    let mut count = 0;
-    while let Some((_line, rest)) = next_line(left) {
-        left = rest;
-        count += 1;
-    }
-    count
+    Lines { left: text }.count()
 }
 
 // The room that a script's answers are given: a buffer for `run_script` has to have as much.
@@ -105,15 +99,15 @@ pub fn run_script(board: &mut Board, input: &[u8], out: &mut [u8]) -> Result<usi
     ensures law { RunKeeps (span_memory board.old) input.now result (span_memory board.new) }
     ensures lent { span_lender board.new ≡ span_lender board.old }
 {
-    let script = script_of(input);
     if out.len() < room_for(input) {
         return Err(Fault::BufferSmall);
     }
     let mut writer = Writer { out, at: 0 };
-    let mut left = script;
-    while let Some((line, rest)) = next_line(left) {
+    let lines = Lines {
+        left: script_of(input),
+    };
+    for line in lines {
         put_answer(&mut writer, call_line(board, line));
-        left = rest;
     }
     Ok(writer.at)
 }

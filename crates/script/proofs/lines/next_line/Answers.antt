@@ -10,10 +10,10 @@ pub returns-in_default : goal.returns-in_default
 returns-in_default c =
     let some : 0 < length c.args.text.now = search rules in
     let none : length c.split_at.result.1.now ≡ 0 = search rules in
-    cut_all c.args.text.now _ _ c.line_length-end.result some c.line_length-end.ensures.value c.split_at.ensures.front c.split_at.ensures.back none
+    cut_all c.args.text.now _ _ c.line_length.result some c.line_length.ensures.value c.split_at.ensures.front c.split_at.ensures.back none
 
 pub returns-in-len1-up : goal.returns-in-len1-up
 returns-in-len1-up c =
     let some : 0 < length c.args.text.now = search rules in
     let more : 0 < length c.split_at.result.1.now = search rules in
-    cut_at c.args.text.now _ _ c.line_length-end.result some c.line_length-end.ensures.value c.split_at.ensures.front c.split_at.result.1.now c.split_at.ensures.back more refl
+    cut_at c.args.text.now _ _ c.line_length.result some c.line_length.ensures.value c.split_at.ensures.front c.split_at.result.1.now c.split_at.ensures.back more refl
