@@ -5,13 +5,12 @@
 // leap, time, type, char. Each header has its block. Those of the first are for readers of 32-bit times: they are passed
 // over, and only its magic number and version are judged.
 ghost use Rattle.std.specs.Prelude.{◌≡◌, ℕ, ◌+◌, ◌*◌, ◌≤◌, length, drop, IfOk, OnOk};
-ghost use Rattle.std.specs.Result.{result_err};
-ghost use Rattle.tzif.specs.Fields.{each, first_wrong};
+ghost use Rattle.tzif.specs.Fields.{each, first_wrong, wrong_place};
 ghost use Rattle.tzif.specs.File.{times as times_of, types as types_of, others as others_of, first_block, counts as counts_of, second_header, rising_at, index_at, type_at, second_block, line_length, last_line, footer as footer_of, second_half, header_place, layout_at, fields_of, refused, checked};
 ghost use Rattle.tzif.specs.Good.{Judged};
 ghost use Rattle.tzif.specs.Places.{Placed, CutsAreTold};
 
-use crate::field::{byte_in, number, number_in, offset, second, skip};
+use crate::field::{WrongAt, byte_in, number, number_in, offset, second, skip};
 use crate::layout::{Counts, Layout};
 use timebase::fault::Fault;
 use zone::offset::is_offset;
@@ -56,9 +55,9 @@ fn others(file: &[u8], at: usize) -> usize
 }
 
 // The counts of the second header, at `at`.
-fn counts(file: &[u8], at: usize) -> Result<Counts, usize>
+fn counts(file: &[u8], at: usize) -> Result<Counts, WrongAt>
     requires { at + 28 ≤ length file.now }
-    ensures wrong { result_err result ≡ first_wrong file.now (counts_of file.now at) }
+    ensures wrong { wrong_place result ≡ first_wrong file.now (counts_of file.now at) }
     ensures value { IfOk result (λ c. (c.times ≡ times_of file.now at) × (c.types ≡ types_of file.now at) × (c.others ≡ others_of file.now at)) }
     ensures near { IfOk result (λ c. (at + 44 ≤ length file.now) × (c.times ≤ 2000) × (1 ≤ c.types) × (c.types ≤ 256)) }
 {
@@ -74,8 +73,8 @@ fn counts(file: &[u8], at: usize) -> Result<Counts, usize>
 }
 
 // The second header, at `at`: it is of the first one's version.
-fn second_header(file: &[u8], at: usize, version: u8) -> Result<Counts, usize>
-    ensures wrong { result_err result ≡ first_wrong file.now (second_header file.now at version) }
+fn second_header(file: &[u8], at: usize, version: u8) -> Result<Counts, WrongAt>
+    ensures wrong { wrong_place result ≡ first_wrong file.now (second_header file.now at version) }
     ensures value { IfOk result (λ c. (c.times ≡ times_of file.now at) × (c.types ≡ types_of file.now at) × (c.others ≡ others_of file.now at)) }
     ensures near { IfOk result (λ c. (at + 44 ≤ length file.now) × (c.times ≤ 2000) × (1 ≤ c.types) × (c.types ≤ 256)) }
 {
@@ -86,38 +85,38 @@ fn second_header(file: &[u8], at: usize, version: u8) -> Result<Counts, usize>
 }
 
 // Transition second `k` of the block at `block`, past the one before it.
-fn rising_at(file: &[u8], block: usize, k: usize) -> Result<(), usize>
+fn rising_at(file: &[u8], block: usize, k: usize) -> Result<(), WrongAt>
     requires { block + 8 * k ≤ length file.now }
-    ensures wrong { result_err result ≡ first_wrong file.now (rising_at file.now block k) }
+    ensures wrong { wrong_place result ≡ first_wrong file.now (rising_at file.now block k) }
     ensures near { OnOk result (block + 8 * (k + 1) ≤ length file.now) }
 {
     let at = block + 8 * k;
     skip(file, at, 8)?;
     if k > 0 && second(file, at) <= second(file, block + 8 * (k - 1)) {
-        return Err(at);
+        return Err(WrongAt { at });
     }
     Ok(())
 }
 
 // Type `k` of those from `at` on: an offset, and two bytes more.
-fn type_at(file: &[u8], at: usize, k: usize) -> Result<(), usize>
+fn type_at(file: &[u8], at: usize, k: usize) -> Result<(), WrongAt>
     requires { at + 6 * k ≤ length file.now }
-    ensures wrong { result_err result ≡ first_wrong file.now (type_at file.now at k) }
+    ensures wrong { wrong_place result ≡ first_wrong file.now (type_at file.now at k) }
     ensures near { OnOk result (at + 6 * (k + 1) ≤ length file.now) }
 {
     let place = at + 6 * k;
     skip(file, place, 4)?;
     if !is_offset(offset(file, place)) {
-        return Err(place);
+        return Err(WrongAt { at: place });
     }
     skip(file, place + 4, 2)?;
     Ok(())
 }
 
 // The first `count` transition seconds of the block at `block`.
-fn seconds(file: &[u8], block: usize, count: usize) -> Result<(), usize>
+fn seconds(file: &[u8], block: usize, count: usize) -> Result<(), WrongAt>
     requires { block ≤ length file.now }
-    ensures wrong { result_err result ≡ first_wrong file.now (each (rising_at file.now block) 0 count) }
+    ensures wrong { wrong_place result ≡ first_wrong file.now (each (rising_at file.now block) 0 count) }
     ensures near { OnOk result (block + 8 * count ≤ length file.now) }
 {
     for k in 0..count {
@@ -127,9 +126,9 @@ fn seconds(file: &[u8], block: usize, count: usize) -> Result<(), usize>
 }
 
 // The first `count` type indexes from `at` on, each below the count of types.
-fn indexes(file: &[u8], at: usize, types: usize, count: usize) -> Result<(), usize>
+fn indexes(file: &[u8], at: usize, types: usize, count: usize) -> Result<(), WrongAt>
     requires { (at ≤ length file.now) × ((1 ≤ types) × (types ≤ 256)) }
-    ensures wrong { result_err result ≡ first_wrong file.now (each (index_at file.now at types) 0 count) }
+    ensures wrong { wrong_place result ≡ first_wrong file.now (each (index_at file.now at types) 0 count) }
     ensures near { OnOk result (at + count ≤ length file.now) }
 {
     for k in 0..count {
@@ -139,9 +138,9 @@ fn indexes(file: &[u8], at: usize, types: usize, count: usize) -> Result<(), usi
 }
 
 // The first `count` types from `at` on.
-fn types(file: &[u8], at: usize, count: usize) -> Result<(), usize>
+fn types(file: &[u8], at: usize, count: usize) -> Result<(), WrongAt>
     requires { at ≤ length file.now }
-    ensures wrong { result_err result ≡ first_wrong file.now (each (type_at file.now at) 0 count) }
+    ensures wrong { wrong_place result ≡ first_wrong file.now (each (type_at file.now at) 0 count) }
     ensures near { OnOk result (at + 6 * count ≤ length file.now) }
 {
     for k in 0..count {
@@ -151,9 +150,9 @@ fn types(file: &[u8], at: usize, count: usize) -> Result<(), usize>
 }
 
 // The place after the second block, at `block`.
-fn second_block(file: &[u8], block: usize, counts: Counts) -> Result<usize, usize>
+fn second_block(file: &[u8], block: usize, counts: Counts) -> Result<usize, WrongAt>
     requires { (block ≤ length file.now) × ((counts.times ≤ 2000) × ((1 ≤ counts.types) × (counts.types ≤ 256))) }
-    ensures wrong { result_err result ≡ first_wrong file.now (second_block file.now block counts.times counts.types counts.others) }
+    ensures wrong { wrong_place result ≡ first_wrong file.now (second_block file.now block counts.times counts.types counts.others) }
     ensures near { IfOk result (λ p. (p ≡ block + 9 * counts.times + 6 * counts.types + counts.others) × (p ≤ length file.now)) }
 {
     let times = counts.times;
@@ -168,12 +167,10 @@ fn line_length(bytes: &[u8]) -> usize
     ensures value { result ≡ line_length bytes.now }
     ensures near { result ≤ length bytes.now }
 {
-    for (i, b) in bytes.iter().enumerate() {
-        if *b == NEWLINE {
-            return i;
-        }
-    }
-    bytes.len()
+    bytes
+        .iter()
+        .position(|b| *b == NEWLINE)
+        .unwrap_or(bytes.len())
 }
 
 // How many bytes of the line at `at` stand before its newline, or at all.
@@ -186,21 +183,21 @@ fn line_at(file: &[u8], at: usize) -> usize
 }
 
 // The line of `size` bytes at `at`, with its newline, is the file's last.
-fn last_line(file: &[u8], at: usize, size: usize) -> Result<(), usize>
+fn last_line(file: &[u8], at: usize, size: usize) -> Result<(), WrongAt>
     requires { at + size ≤ length file.now }
-    ensures { result_err result ≡ first_wrong file.now (last_line file.now at size) }
+    ensures { wrong_place result ≡ first_wrong file.now (last_line file.now at size) }
 {
     let end = skip(file, at, size)?;
     byte_in(file, end, NEWLINE, NEWLINE)?;
     if end + 1 < file.len() {
-        return Err(end + 1);
+        return Err(WrongAt { at: end + 1 });
     }
     Ok(())
 }
 
 // The place of the footer's text; the footer starts at `at`.
-fn footer(file: &[u8], at: usize) -> Result<usize, usize>
-    ensures wrong { result_err result ≡ first_wrong file.now (footer_of file.now at) }
+fn footer(file: &[u8], at: usize) -> Result<usize, WrongAt>
+    ensures wrong { wrong_place result ≡ first_wrong file.now (footer_of file.now at) }
     ensures near { IfOk result (λ t. t ≡ at + 1) }
 {
     byte_in(file, at, NEWLINE, NEWLINE)?;
@@ -210,8 +207,8 @@ fn footer(file: &[u8], at: usize) -> Result<usize, usize>
 }
 
 // The second header, at `header`, and all that follows it.
-fn second_half(file: &[u8], header: usize, version: u8) -> Result<Layout, usize>
-    ensures wrong { result_err result ≡ first_wrong file.now (second_half file.now header version) }
+fn second_half(file: &[u8], header: usize, version: u8) -> Result<Layout, WrongAt>
+    ensures wrong { wrong_place result ≡ first_wrong file.now (second_half file.now header version) }
     ensures value { IfOk result (λ l. l ≡ layout_at file.now header) }
 {
     let counts = second_header(file, header, version)?;
@@ -227,8 +224,8 @@ fn second_half(file: &[u8], header: usize, version: u8) -> Result<Layout, usize>
 }
 
 // Goes through all fields of a file, and finds its parts.
-fn parse(file: &[u8]) -> Result<Layout, usize>
-    ensures wrong { result_err result ≡ first_wrong file.now (fields_of file.now) }
+fn parse(file: &[u8]) -> Result<Layout, WrongAt>
+    ensures wrong { wrong_place result ≡ first_wrong file.now (fields_of file.now) }
     ensures value { IfOk result (λ l. l ≡ layout_at file.now (header_place file.now)) }
 {
     number_in(file, 0, MAGIC, MAGIC)?;
@@ -238,23 +235,14 @@ fn parse(file: &[u8]) -> Result<Layout, usize>
     second_half(file, header, version)
 }
 
-// The refusal at a place, which is never past the limit.
-fn refusal(place: usize) -> Fault
-    ensures { result ≡ refused place }
-{
-    Fault::BadFile {
-        at: place.min(FILE_LIMIT),
-    }
-}
+impl From<WrongAt> for Fault {
+    ghost from_gives = { λ wrong fault. fault ≡ refused wrong.at };
 
-// Judges a file by its fields, and then by its length.
-fn judge(file: &[u8]) -> Result<Layout, Fault>
-    ensures { result ≡ checked file.now }
-{
-    match parse(file) {
-        Err(place) => Err(refusal(place)),
-        Ok(_) if FILE_LIMIT < file.len() => Err(refusal(FILE_LIMIT)),
-        Ok(layout) => Ok(layout),
+    // The refusal at a place, which is never past the limit.
+    fn from(wrong: WrongAt) -> Fault {
+        Fault::BadFile {
+            at: wrong.at.min(FILE_LIMIT),
+        }
     }
 }
 
@@ -265,7 +253,11 @@ pub fn check(file: &[u8]) -> Result<Layout, Fault>
     ensures good { Judged file.now result }
     ensures place { Placed file.now result }
 {
-    judge(file)
+    let layout = parse(file)?;
+    if FILE_LIMIT < file.len() {
+        return Err(Fault::BadFile { at: FILE_LIMIT });
+    }
+    Ok(layout)
 }
 
 // The contract is the point, and the code only carries it: a file that is cut before the place of its refusal, or anywhere
