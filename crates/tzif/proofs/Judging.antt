@@ -10,7 +10,7 @@ use Rattle.tzif.specs.Fields.{Field, each, wrong_at, first_wrong}
 use Rattle.tzif.specs.File.{times, types, others, second_header, second_block, line_length, footer, footer_place, second_half}
 use Rattle.tzif.specs.Places.{Sound, Wrong, FirstWrong}
 
-or_none : (o : Option ℕ) → o ≡ or_else o None
+pub or_none : (o : Option ℕ) → o ≡ or_else o None
 or_none None = refl
 or_none (Some p) = refl
 
@@ -42,14 +42,6 @@ module _ (f : List ℕ) (fields : ℕ → List Field) (n k : ℕ) (more : k < n)
 
   pub each_stop : {p : ℕ} → Some p ≡ first_wrong f (fields k) → first_wrong f (each fields k (n - k)) ≡ Some p
   each_stop e = rw (left n k more, first_append f (fields k) (each fields (suc k) (n - (k + 1))), ← e)
-
--- the same where each element is one field
-module _ (f : List ℕ) (field : ℕ → Field) (n k : ℕ) (more : k < n) where
-  pub one_more : None ≡ wrong_at f (field k) → first_wrong f (each (λ i. field i ∷ []) k (n - k)) ≡ first_wrong f (each (λ i. field i ∷ []) (k + 1) (n - (k + 1)))
-  one_more e = each_more f (λ i. field i ∷ []) n k more (e ∙ or_none (wrong_at f (field k)))
-
-  pub one_stop : {p : ℕ} → Some p ≡ wrong_at f (field k) → first_wrong f (each (λ i. field i ∷ []) k (n - k)) ≡ Some p
-  one_stop e = each_stop f (λ i. field i ∷ []) n k more (e ∙ or_none (wrong_at f (field k)))
 
 -- the length of a line is the place of its newline
 line_is : (bs : List ℕ) → line_length bs ≡ position_or_len (λ b. eqb b 10) bs

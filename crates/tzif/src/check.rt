@@ -4,9 +4,9 @@
 // A header has 44 bytes: the magic number, a version byte, 15 unused bytes and six counts of 4 bytes each: isut, isstd,
 // leap, time, type, char. Each header has its block. Those of the first are for readers of 32-bit times: they are passed
 // over, and only its magic number and version are judged.
-ghost use Rattle.std.specs.Prelude.{◌≡◌, ℕ, ◌+◌, ◌*◌, ◌≤◌, length, drop, IfOk, OnOk};
-ghost use Rattle.tzif.specs.Fields.{each, first_wrong, wrong_place};
-ghost use Rattle.tzif.specs.File.{times as times_of, types as types_of, others as others_of, first_block, counts as counts_of, second_header, rising_at, index_at, type_at, second_block, line_length, last_line, footer as footer_of, second_half, header_place, layout_at, fields_of, refused, checked};
+ghost use Rattle.std.specs.Prelude.{◌≡◌, ℕ, List, Result, ◌<◌, ◌+◌, ◌*◌, ◌≤◌, length, drop, IfOk, OnOk};
+ghost use Rattle.tzif.specs.Fields.{Field, each as fields_of_each, first_wrong, wrong_place};
+ghost use Rattle.tzif.specs.File.{times as times_of, types as types_of, others as others_of, first_block, second_header, rising_at, type_at, second_block, line_length, last_line, footer as footer_of, second_half, header_place, layout_at, fields_of, refused, checked};
 ghost use Rattle.tzif.specs.Good.{Judged};
 ghost use Rattle.tzif.specs.Places.{Placed, CutsAreTold};
 
@@ -54,13 +54,15 @@ fn others(file: &[u8], at: usize) -> usize
     chars + isstds + isuts
 }
 
-// The counts of the second header, at `at`.
-fn counts(file: &[u8], at: usize) -> Result<Counts, WrongAt>
-    requires { at + 28 ≤ length file.now }
-    ensures wrong { wrong_place result ≡ first_wrong file.now (counts_of file.now at) }
+// The second header, at `at`: it is of the first one's version, and its counts are judged.
+fn second_header(file: &[u8], at: usize, version: u8) -> Result<Counts, WrongAt>
+    ensures wrong { wrong_place result ≡ first_wrong file.now (second_header file.now at version) }
     ensures value { IfOk result (λ c. (c.times ≡ times_of file.now at) × (c.types ≡ types_of file.now at) × (c.others ≡ others_of file.now at)) }
-    ensures near { IfOk result (λ c. (at + 44 ≤ length file.now) × (c.times ≤ 2000) × (1 ≤ c.types) × (c.types ≤ 256)) }
+    ensures near { OnOk result (at + 44 ≤ length file.now) }
 {
+    number_in(file, at, MAGIC, MAGIC)?;
+    byte_in(file, at + 4, version, version)?;
+    skip(file, at + 5, 23)?;
     number_in(file, at + 28, 0, 0)?;
     let times = number_in(file, at + 32, 0, TIMES_MOST)? as usize;
     let types = number_in(file, at + 36, 1, TYPES_MOST)? as usize;
@@ -72,23 +74,21 @@ fn counts(file: &[u8], at: usize) -> Result<Counts, WrongAt>
     })
 }
 
-// The second header, at `at`: it is of the first one's version.
-fn second_header(file: &[u8], at: usize, version: u8) -> Result<Counts, WrongAt>
-    ensures wrong { wrong_place result ≡ first_wrong file.now (second_header file.now at version) }
-    ensures value { IfOk result (λ c. (c.times ≡ times_of file.now at) × (c.types ≡ types_of file.now at) × (c.others ≡ others_of file.now at)) }
-    ensures near { IfOk result (λ c. (at + 44 ≤ length file.now) × (c.times ≤ 2000) × (1 ≤ c.types) × (c.types ≤ 256)) }
+// The checks of `count` elements, in order; the first wrong one ends them.
+fn each<T: Drop, F: Fn(usize) -> Result<T, WrongAt>>(count: usize, check: F) -> Result<(), WrongAt>
+    requires { (k : ℕ) → k < count → F.pre check k }
+    ensures { (file : List ℕ) (fields : ℕ → List Field) → ((k : ℕ) (r : Result T WrongAt) → k < count → F.post check k r → wrong_place r ≡ first_wrong file (fields k)) → wrong_place result ≡ first_wrong file (fields_of_each fields 0 count) }
 {
-    number_in(file, at, MAGIC, MAGIC)?;
-    byte_in(file, at + 4, version, version)?;
-    skip(file, at + 5, 23)?;
-    counts(file, at)
+    for k in 0..count {
+        check(k)?;
+    }
+    Ok(())
 }
 
 // Transition second `k` of the block at `block`, past the one before it.
 fn rising_at(file: &[u8], block: usize, k: usize) -> Result<(), WrongAt>
-    requires { block + 8 * k ≤ length file.now }
-    ensures wrong { wrong_place result ≡ first_wrong file.now (rising_at file.now block k) }
-    ensures near { OnOk result (block + 8 * (k + 1) ≤ length file.now) }
+    requires { (block ≤ length file.now) × (k < 2000) }
+    ensures { wrong_place result ≡ first_wrong file.now (rising_at file.now block k) }
 {
     let at = block + 8 * k;
     skip(file, at, 8)?;
@@ -99,67 +99,35 @@ fn rising_at(file: &[u8], block: usize, k: usize) -> Result<(), WrongAt>
 }
 
 // Type `k` of those from `at` on: an offset, and two bytes more.
-fn type_at(file: &[u8], at: usize, k: usize) -> Result<(), WrongAt>
-    requires { at + 6 * k ≤ length file.now }
-    ensures wrong { wrong_place result ≡ first_wrong file.now (type_at file.now at k) }
-    ensures near { OnOk result (at + 6 * (k + 1) ≤ length file.now) }
+fn type_at(file: &[u8], at: usize, k: usize) -> Result<usize, WrongAt>
+    requires { (at ≤ length file.now + 18000) × (k < 256) }
+    ensures { wrong_place result ≡ first_wrong file.now (type_at file.now at k) }
 {
     let place = at + 6 * k;
     skip(file, place, 4)?;
     if !is_offset(offset(file, place)) {
         return Err(WrongAt { at: place });
     }
-    skip(file, place + 4, 2)?;
-    Ok(())
+    skip(file, place + 4, 2)
 }
 
-// The first `count` transition seconds of the block at `block`.
-fn seconds(file: &[u8], block: usize, count: usize) -> Result<(), WrongAt>
-    requires { block ≤ length file.now }
-    ensures wrong { wrong_place result ≡ first_wrong file.now (each (rising_at file.now block) 0 count) }
-    ensures near { OnOk result (block + 8 * count ≤ length file.now) }
-{
-    for k in 0..count {
-        rising_at(file, block, k)?;
-    }
-    Ok(())
-}
-
-// The first `count` type indexes from `at` on, each below the count of types.
-fn indexes(file: &[u8], at: usize, types: usize, count: usize) -> Result<(), WrongAt>
-    requires { (at ≤ length file.now) × ((1 ≤ types) × (types ≤ 256)) }
-    ensures wrong { wrong_place result ≡ first_wrong file.now (each (index_at file.now at types) 0 count) }
-    ensures near { OnOk result (at + count ≤ length file.now) }
-{
-    for k in 0..count {
-        byte_in(file, at + k, 0, (types - 1) as u8)?;
-    }
-    Ok(())
-}
-
-// The first `count` types from `at` on.
-fn types(file: &[u8], at: usize, count: usize) -> Result<(), WrongAt>
-    requires { at ≤ length file.now }
-    ensures wrong { wrong_place result ≡ first_wrong file.now (each (type_at file.now at) 0 count) }
-    ensures near { OnOk result (at + 6 * count ≤ length file.now) }
-{
-    for k in 0..count {
-        type_at(file, at, k)?;
-    }
-    Ok(())
-}
-
-// The place after the second block, at `block`.
+// The second block, at `block`; the place after it.
 fn second_block(file: &[u8], block: usize, counts: Counts) -> Result<usize, WrongAt>
-    requires { (block ≤ length file.now) × ((counts.times ≤ 2000) × ((1 ≤ counts.types) × (counts.types ≤ 256))) }
+    requires { block ≤ length file.now }
     ensures wrong { wrong_place result ≡ first_wrong file.now (second_block file.now block counts.times counts.types counts.others) }
-    ensures near { IfOk result (λ p. (p ≡ block + 9 * counts.times + 6 * counts.types + counts.others) × (p ≤ length file.now)) }
+    ensures near { IfOk result (λ p. p ≡ block + 9 * counts.times + 6 * counts.types + counts.others) }
 {
-    let times = counts.times;
-    seconds(file, block, times)?;
-    indexes(file, block + 8 * times, counts.types, times)?;
-    types(file, block + 9 * times, counts.types)?;
-    skip(file, block + 9 * times + 6 * counts.types, counts.others)
+    let Counts {
+        times,
+        types,
+        others,
+    } = counts;
+    let indexes = block + 8 * times;
+    let records = block + 9 * times;
+    each(times, |k| rising_at(file, block, k))?;
+    each(times, |k| byte_in(file, indexes + k, 0, (types - 1) as u8))?;
+    each(types, |k| type_at(file, records, k))?;
+    skip(file, records + 6 * types, others)
 }
 
 // How many bytes stand before the first newline, or at all.

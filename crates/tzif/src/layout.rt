@@ -1,4 +1,5 @@
 // What is found in a file.
+ghost use Rattle.std.specs.Prelude.{◌≤◌};
 
 // Where the parts of a good file stand that a look-up reads.
 #[derive(Clone, Copy)]
@@ -22,4 +23,5 @@ pub(crate) struct Counts {
     pub(crate) types: usize,
     // bytes of the second block after its types
     pub(crate) others: usize,
+    ghost judged: { (times ≤ 2000) × (1 ≤ types) × (types ≤ 256) },
 }
