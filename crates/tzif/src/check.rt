@@ -6,7 +6,7 @@
 // over, and only its magic number and version are judged.
 ghost use Rattle.std.specs.Prelude.{◌≡◌, ℕ, List, Result, ◌<◌, ◌+◌, ◌*◌, ◌≤◌, length, drop, IfOk, OnOk};
 ghost use Rattle.tzif.specs.Fields.{Field, each as fields_of_each, first_wrong, wrong_place};
-ghost use Rattle.tzif.specs.File.{times as times_of, types as types_of, others as others_of, first_block, second_header, rising_at, type_at, second_block, line_length, last_line, footer as footer_of, second_half, header_place, layout_at, fields_of, refused, checked};
+ghost use Rattle.tzif.specs.File.{times as times_of, types as types_of, others as others_of, first_block, second_header, rising_at, type_at, second_block, line_length, footer as footer_of, second_half, header_place, layout_at, fields_of, refused, checked};
 ghost use Rattle.tzif.specs.Good.{Judged};
 ghost use Rattle.tzif.specs.Places.{Placed, CutsAreTold};
 
@@ -132,8 +132,7 @@ fn second_block(file: &[u8], block: usize, counts: Counts) -> Result<usize, Wron
 
 // How many bytes stand before the first newline, or at all.
 fn line_length(bytes: &[u8]) -> usize
-    ensures value { result ≡ line_length bytes.now }
-    ensures near { result ≤ length bytes.now }
+    ensures { result ≡ line_length bytes.now }
 {
     bytes
         .iter()
@@ -141,36 +140,18 @@ fn line_length(bytes: &[u8]) -> usize
         .unwrap_or(bytes.len())
 }
 
-// How many bytes of the line at `at` stand before its newline, or at all.
-fn line_at(file: &[u8], at: usize) -> usize
-    requires { at ≤ length file.now }
-    ensures value { result ≡ line_length (drop at file.now) }
-    ensures near { at + result ≤ length file.now }
-{
-    line_length(&file[at..])
-}
-
-// The line of `size` bytes at `at`, with its newline, is the file's last.
-fn last_line(file: &[u8], at: usize, size: usize) -> Result<(), WrongAt>
-    requires { at + size ≤ length file.now }
-    ensures { wrong_place result ≡ first_wrong file.now (last_line file.now at size) }
-{
-    let end = skip(file, at, size)?;
-    byte_in(file, end, NEWLINE, NEWLINE)?;
-    if end + 1 < file.len() {
-        return Err(WrongAt { at: end + 1 });
-    }
-    Ok(())
-}
-
-// The place of the footer's text; the footer starts at `at`.
+// The place of the footer's text; the footer starts at `at`. The text is a line, and its newline is the file's last byte.
 fn footer(file: &[u8], at: usize) -> Result<usize, WrongAt>
     ensures wrong { wrong_place result ≡ first_wrong file.now (footer_of file.now at) }
     ensures near { IfOk result (λ t. t ≡ at + 1) }
 {
     byte_in(file, at, NEWLINE, NEWLINE)?;
     let text = at + 1;
-    last_line(file, text, line_at(file, text))?;
+    let end = skip(file, text, line_length(&file[text..]))?;
+    byte_in(file, end, NEWLINE, NEWLINE)?;
+    if end + 1 < file.len() {
+        return Err(WrongAt { at: end + 1 });
+    }
     Ok(text)
 }
 

@@ -56,7 +56,7 @@ pub(crate) fn byte_in(file: &[u8], at: usize, least: u8, most: u8) -> Result<u8,
 {
     skip(file, at, 1)?;
     let value = file[at];
-    if value < least || most < value {
+    if !(least..=most).contains(&value) {
         return Err(WrongAt { at });
     }
     Ok(value)
@@ -69,7 +69,7 @@ pub(crate) fn number_in(file: &[u8], at: usize, least: u32, most: u32) -> Result
 {
     skip(file, at, 4)?;
     let value = number(file, at);
-    if value < least || most < value {
+    if !(least..=most).contains(&value) {
         return Err(WrongAt { at });
     }
     Ok(value)
