@@ -1,7 +1,6 @@
 // Zones that view TZif files.
 #![tactic(auto)]
 
-mod bytes;
 pub mod file_rule;
 mod lookup;
 pub mod zone_file;
