@@ -4,7 +4,7 @@ ghost use Rattle.file_zone.specs.Files.{part_of, file_tells};
 ghost use Rattle.file_zone.specs.Telling.{told_by, bytes_of, IsBlockOf};
 ghost use Rattle.tzif.specs.File.{checked};
 
-use crate::lookup::Block;
+use crate::block::Block;
 use crate::zone_file::ZoneFile;
 use timebase::fault::Fault;
 use tzif::check::check;

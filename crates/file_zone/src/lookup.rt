@@ -1,17 +1,11 @@
-// The look-up in a file's second block, which it is handed as a part of the file that starts in its middle.
+// The look-up in a file's second block.
 ghost use Rattle.std.specs.Prelude.{◌≡◌, ℕ, List, slice_index_or, ◌+◌, ◌*◌, ◌<◌, ◌≤◌, length};
 ghost use Rattle.tzif.specs.Fields.{second8};
-ghost use Rattle.file_zone.specs.Blocks.{second_at, index_of, offset_of, offset_after, steps_of, GoodBlock, Passed};
+ghost use Rattle.file_zone.specs.Blocks.{second_at, index_of, offset_of, offset_after, Passed};
+ghost use Rattle.file_zone.specs.Telling.{first_in, steps_in};
 ghost use Rattle.zone_rule.specs.Steps.{offset_at, change_in};
 
-// A good block: its transitions' seconds, then their type indexes, then the types' records.
-#[derive(Clone, Copy)]
-pub(crate) struct Block<'f> {
-    pub(crate) bytes: &'f [u8],
-    // how many transitions
-    pub(crate) times: usize,
-    ghost good: { GoodBlock bytes.now times },
-}
+use crate::block::Block;
 
 // From `second` on, the type `index` holds.
 #[derive(Clone, Copy)]
@@ -75,7 +69,7 @@ impl Block<'_> {
 
     // The offset at a second.
     pub(crate) fn look_up(&self, at: i64) -> i32
-        ensures { result ≡ offset_at (offset_of self.now.bytes.now self.now.times 0) (steps_of self.now.bytes.now self.now.times) at }
+        ensures { result ≡ offset_at (first_in self.now) (steps_in self.now) at }
     {
         self.offset_after(self.passed(at))
     }
@@ -83,7 +77,7 @@ impl Block<'_> {
     // The first second after `after` and before `before` from which another offset holds. Transitions that leave the offset
     // as it was are passed over.
     pub(crate) fn next_change(&self, after: i64, before: i64) -> Option<i64>
-        ensures { result ≡ change_in (offset_of self.now.bytes.now self.now.times 0) (steps_of self.now.bytes.now self.now.times) after before }
+        ensures { result ≡ change_in (first_in self.now) (steps_in self.now) after before }
     {
         let start = self.passed(after);
         let offset = self.offset_after(start);

@@ -4,7 +4,7 @@
 // A header has 44 bytes: the magic number, a version byte, 15 unused bytes and six counts of 4 bytes each: isut, isstd,
 // leap, time, type, char. Each header has its block. Those of the first are for readers of 32-bit times: they are passed
 // over, and only its magic number and version are judged.
-ghost use Rattle.std.specs.Prelude.{◌≡◌, ℕ, List, Result, ◌<◌, ◌+◌, ◌*◌, ◌≤◌, length, drop, IfOk, OnOk};
+ghost use Rattle.std.specs.Prelude.{◌≡◌, ℕ, List, Result, ◌<◌, ◌+◌, ◌*◌, ◌^◌, ◌≤◌, length, drop, IfOk, OnOk};
 ghost use Rattle.tzif.specs.Fields.{Field, each as fields_of_each, first_wrong, wrong_place};
 ghost use Rattle.tzif.specs.File.{times as times_of, types as types_of, others as others_of, first_block, second_header, rising_at, type_at, second_block, line_length, footer as footer_of, second_half, header_place, layout_at, fields_of, refused, checked};
 ghost use Rattle.tzif.specs.Good.{Judged};
@@ -29,29 +29,27 @@ const TYPES_MOST: u32 = 256;
 
 const NEWLINE: u8 = 10;
 
-// The size of the first block: counts of 32 bits, so that no sum of theirs leaves 64.
-fn first_block(file: &[u8]) -> usize
-    requires { 44 ≤ length file.now }
-    ensures { result ≡ first_block file.now }
-{
-    let isuts = number(file, 20) as usize;
-    let isstds = number(file, 24) as usize;
-    let leaps = number(file, 28) as usize;
-    let times = number(file, 32) as usize;
-    let types = number(file, 36) as usize;
-    let chars = number(file, 40) as usize;
-    times * 5 + types * 6 + chars + leaps * 8 + isstds + isuts
-}
-
-// How many bytes of the second block stand after its types; the second header stands at `at`.
+// How many bytes of a block are of no transition, type or leap second; its header stands at `at`.
 fn others(file: &[u8], at: usize) -> usize
     requires { at + 44 ≤ length file.now }
-    ensures { result ≡ others_of file.now at }
+    ensures value { result ≡ others_of file.now at }
+    ensures few { result < 2 ^ 34 }
 {
     let isuts = number(file, at + 20) as usize;
     let isstds = number(file, at + 24) as usize;
     let chars = number(file, at + 40) as usize;
     chars + isstds + isuts
+}
+
+// The size of the first block: counts of 32 bits, so that no sum of theirs leaves 64.
+fn first_block(file: &[u8]) -> usize
+    requires { 44 ≤ length file.now }
+    ensures { result ≡ first_block file.now }
+{
+    let leaps = number(file, 28) as usize;
+    let times = number(file, 32) as usize;
+    let types = number(file, 36) as usize;
+    times * 5 + types * 6 + leaps * 8 + others(file, 0)
 }
 
 // The second header, at `at`: it is of the first one's version, and its counts are judged.
@@ -87,7 +85,7 @@ fn each<T: Drop, F: Fn(usize) -> Result<T, WrongAt>>(count: usize, check: F) -> 
 
 // Transition second `k` of the block at `block`, past the one before it.
 fn rising_at(file: &[u8], block: usize, k: usize) -> Result<(), WrongAt>
-    requires { (block ≤ length file.now) × (k < 2000) }
+    requires { block + 8 * k < 2 ^ 64 }
     ensures { wrong_place result ≡ first_wrong file.now (rising_at file.now block k) }
 {
     let at = block + 8 * k;
@@ -100,7 +98,7 @@ fn rising_at(file: &[u8], block: usize, k: usize) -> Result<(), WrongAt>
 
 // Type `k` of those from `at` on: an offset, and two bytes more.
 fn type_at(file: &[u8], at: usize, k: usize) -> Result<usize, WrongAt>
-    requires { (at ≤ length file.now + 18000) × (k < 256) }
+    requires { at + 6 * k < 2 ^ 64 }
     ensures { wrong_place result ≡ first_wrong file.now (type_at file.now at k) }
 {
     let place = at + 6 * k;

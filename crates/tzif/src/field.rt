@@ -1,5 +1,7 @@
 // The fields of a file. Each must be whole and hold what is right; one that isn't refuses the file, at the file's length
 // if it is cut short, and at its own place if it is whole.
+//
+// The file goes with each place, and no cursor keeps them: counts, seconds and a line are read again at places of their own.
 ghost use Rattle.std.specs.Prelude.{◌≡◌, ℕ, ◌+◌, ◌≤◌, length, take, drop, IfOk};
 ghost use Rattle.tzif.specs.Fields.{byte_at, number4, offset4, second8, anything, byte_in, number_in, wrong_at, wrong_place};
 
@@ -48,6 +50,8 @@ pub(crate) fn second(file: &[u8], at: usize) -> i64
 {
     i64::from_be_bytes(array(file, at))
 }
+
+// One function for both kinds of number would need a trait with a law for each, longer than the second body.
 
 // The byte at `at`, which must be from `least` to `most`.
 pub(crate) fn byte_in(file: &[u8], at: usize, least: u8, most: u8) -> Result<u8, WrongAt>

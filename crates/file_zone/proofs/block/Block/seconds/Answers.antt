@@ -1,7 +1,7 @@
 use Rattle.std.proofs.Common.{◌≡◌, ◌*◌, ◌/◌, length, take, ap, ◌∙◌, arith, length-take}
 use Rattle.std.specs.Simd.{first_chunks}
 use Rattle.file_zone.proofs.Chunks.{chunk_second}
-use Rattle.file_zone.proofs.lookup.Block.seconds.Goals as goal
+use Rattle.file_zone.proofs.block.Block.seconds.Goals as goal
 
 pub returns-clause-value : goal.returns-clause-value
 returns-clause-value c k d h =

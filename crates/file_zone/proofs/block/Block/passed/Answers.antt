@@ -2,7 +2,7 @@ use Rattle.std.proofs.Common.{int_le, rules}
 use Rattle.std.proofs.lemmas.List.Sorted.{IsPartitionPoint-from_clause}
 use Rattle.tzif.specs.Fields.{second8}
 use Rattle.file_zone.proofs.Chunks.{is_parted, passed_is}
-use Rattle.file_zone.proofs.lookup.Block.passed.Goals as goal
+use Rattle.file_zone.proofs.block.Block.passed.Goals as goal
 
 pub returns : goal.returns
 returns c =

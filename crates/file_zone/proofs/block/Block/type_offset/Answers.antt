@@ -2,7 +2,7 @@ use borrow.Author.Rules.{sfits_of, to_z-of_z_to}
 use Rattle.std.proofs.Common.{◌≡◌, ◌+◌, ◌*◌, take, drop, ap, ◌∙◌, arith, rules, w32}
 use Rattle.tzif.specs.Fields.{number4, offset4}
 use Rattle.tzif.proofs.Parts.{offset_part}
-use Rattle.file_zone.proofs.lookup.Block.type_offset.Goals as goal
+use Rattle.file_zone.proofs.block.Block.type_offset.Goals as goal
 
 pub returns : goal.returns
 unfolding number4 offset4
