@@ -16,10 +16,10 @@ pub(crate) fn skip(file: &[u8], at: usize, size: usize) -> Result<usize, WrongAt
     ensures wrong { wrong_place result ≡ wrong_at file.now (anything at size) }
     ensures near { IfOk result (λ p. (p ≡ at + size) × (p ≤ length file.now)) }
 {
-    if file.len() < size || file.len() - size < at {
-        return Err(WrongAt { at: file.len() });
+    match at.checked_add(size) {
+        Some(end) if end <= file.len() => Ok(end),
+        _ => Err(WrongAt { at: file.len() }),
     }
-    Ok(at + size)
 }
 
 // The N bytes at `at`.

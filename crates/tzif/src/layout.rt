@@ -1,7 +1,7 @@
 // What is found in a file.
 ghost use Rattle.std.specs.Prelude.{◌≤◌};
 
-// Where the parts of a good file stand that a look-up reads.
+// Where the parts of a good file stand that a look-up reads: places, since the type is public and has no lifetime.
 #[derive(Clone, Copy)]
 pub struct Layout {
     // the place of the second block, which starts with its transition seconds
