@@ -73,6 +73,7 @@ fn second_header(file: &[u8], at: usize, version: u8) -> Result<Counts, WrongAt>
 }
 
 // The checks of `count` elements, in order; the first wrong one ends them.
+// The library's `try_for_each` promises only its calls: each use would need an induction from them to the fields.
 fn each<T: Drop, F: Fn(usize) -> Result<T, WrongAt>>(count: usize, check: F) -> Result<(), WrongAt>
     requires { (k : ℕ) → k < count → F.pre check k }
     ensures { (file : List ℕ) (fields : ℕ → List Field) → ((k : ℕ) (r : Result T WrongAt) → k < count → F.post check k r → wrong_place r ≡ first_wrong file (fields k)) → wrong_place result ≡ first_wrong file (fields_of_each fields 0 count) }
