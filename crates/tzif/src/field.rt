@@ -22,7 +22,7 @@ pub(crate) fn skip(file: &[u8], at: usize, size: usize) -> Result<usize, WrongAt
     }
 }
 
-// The N bytes at `at`.
+// The N bytes at `at`, from which the numbers of each size are made.
 fn array<const N: usize>(file: &[u8], at: usize) -> [u8; N]
     requires { at + N ≤ length file.now }
     ensures { result ≡ take N (drop at file.now) }
@@ -51,8 +51,6 @@ pub(crate) fn second(file: &[u8], at: usize) -> i64
     i64::from_be_bytes(array(file, at))
 }
 
-// One function for both kinds of number would need a trait with a law for each, longer than the second body.
-
 // The byte at `at`, which must be from `least` to `most`.
 pub(crate) fn byte_in(file: &[u8], at: usize, least: u8, most: u8) -> Result<u8, WrongAt>
     ensures wrong { wrong_place result ≡ wrong_at file.now (byte_in file.now at least most) }
@@ -67,6 +65,7 @@ pub(crate) fn byte_in(file: &[u8], at: usize, least: u8, most: u8) -> Result<u8,
 }
 
 // The 4-byte number at `at`, which must be from `least` to `most`.
+// Not one function with `byte_in`: that takes a trait with a law for each type, which is longer than this body.
 pub(crate) fn number_in(file: &[u8], at: usize, least: u32, most: u32) -> Result<u32, WrongAt>
     ensures wrong { wrong_place result ≡ wrong_at file.now (number_in file.now at least most) }
     ensures near { IfOk result (λ v. (v ≡ number4 file.now at) × (least ≤ v) × (v ≤ most)) }
