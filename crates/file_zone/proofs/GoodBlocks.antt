@@ -1,49 +1,17 @@
 -- The second block of a good file is good for a look-up.
-use Rattle.std.proofs.Common.{◌≡◌, ℕ, zero, suc, ◌+◌, ◌-◌, ◌*◌, ◌<◌, ◌≤◌, true, List, [], ◌∷◌, ◌++◌, length, get_or, take, drop, ℤ, ◌<ℤ◌, Ok, sym, refl, ap, ◌∙◌, subst, inl, inr, arith, length-drop, length-take, get_or-drop, get_or-take, w32, to_z}
+use Rattle.std.proofs.Common.{◌≡◌, ℕ, zero, suc, ◌+◌, ◌-◌, ◌*◌, ◌<◌, ◌≤◌, true, List, [], ◌∷◌, ◌++◌, length, drop, ℤ, ◌<ℤ◌, Ok, sym, refl, ap, subst, inl, inr, arith, length-drop, length-take}
 use Rattle.std.proofs.lemmas.Int.{ints}
 use Rattle.std.proofs.lemmas.Bool.{cases_lt}
 use Rattle.std.specs.List.{between}
 use Rattle.zone.specs.Offsets.{is_offset}
 use Rattle.tzif.specs.declared.layout.Layout.{Layout}
-use Rattle.tzif.specs.Fields.{byte_at, number4, number8, offset4, second8}
+use Rattle.tzif.specs.Fields.{byte_at, offset4, second8}
 use Rattle.tzif.specs.File.{times, types, header_place, footer_place, checked}
+use Rattle.tzif.proofs.Parts.{byte_part, offset_part, second_part}
 use Rattle.tzif.proofs.Reading.{checked_ok}
 use Rattle.tzif.specs.Good.{Block, GoodAt}
 use Rattle.file_zone.specs.Blocks.{second_at, index_of, offset_of, GoodBlock}
 use Rattle.file_zone.specs.Files.{part_of}
-
--- what stands at place i of a part that starts at a stands at a + i
-module _ (f : List ℕ) (a s : ℕ) where
-  pub byte_part : (i j : ℕ) → i < s → j ≡ a + i → get_or (take s (drop a f)) i 0 ≡ get_or f j 0
-  byte_part i j h e = get_or-take s (drop a f) i 0 h ∙ get_or-drop a f i 0 ∙ ap (λ (k : ℕ). get_or f k 0) (sym e)
-
-  pub number_part : (p q : ℕ) → (p + 4) ≤ s → q ≡ a + p → number4 (take s (drop a f)) p ≡ number4 f q
-  unfolding number4
-  number_part p q h e =
-      rw (
-        byte_part p q (omega arith) e,
-        byte_part (p + 1) (q + 1) (omega arith) (omega arith),
-        byte_part (p + 2) (q + 2) (omega arith) (omega arith),
-        byte_part (p + 3) (q + 3) (omega arith) (omega arith),
-      )
-
-  pub offset_part : (p q : ℕ) → (p + 4) ≤ s → q ≡ a + p → offset4 (take s (drop a f)) p ≡ offset4 f q
-  unfolding offset4
-  offset_part p q h e = ap (to_z w32) (number_part p q h e)
-
-  pub second_part : (p q : ℕ) → (p + 8) ≤ s → q ≡ a + p → second8 (take s (drop a f)) p ≡ second8 f q
-  unfolding second8 number8
-  second_part p q h e =
-      rw (
-        byte_part p q (omega arith) e,
-        byte_part (p + 1) (q + 1) (omega arith) (omega arith),
-        byte_part (p + 2) (q + 2) (omega arith) (omega arith),
-        byte_part (p + 3) (q + 3) (omega arith) (omega arith),
-        byte_part (p + 4) (q + 4) (omega arith) (omega arith),
-        byte_part (p + 5) (q + 5) (omega arith) (omega arith),
-        byte_part (p + 6) (q + 6) (omega arith) (omega arith),
-        byte_part (p + 7) (q + 7) (omega arith) (omega arith),
-      )
 
 -- neighbours rise, so all do
 rising_all : (at : ℕ → ℤ) (n : ℕ) → ((k : ℕ) → suc k < n → at k <ℤ at (suc k)) → (k j : ℕ) → j < k → k < n → at j <ℤ at k

@@ -1,3 +1,4 @@
+pub mod Chunks
 pub mod FileTells
 pub mod GoodBlocks
 pub mod Lookups

@@ -1,9 +1,8 @@
 -- A search among rising seconds, and what it finds.
-use Rattle.std.proofs.Common.{◌≡◌, ℕ, zero, suc, ◌+◌, ◌-◌, ◌<◌, ◌≤◌, true, false, List, [], ◌∷◌, ℤ, ◌≤ℤ◌, ◌<ℤ◌, Some, None, sym, refl, ap, ◌∙◌, inl, inr, add-zero, add-one, arith}
+use Rattle.std.proofs.Common.{◌≡◌, ℕ, zero, suc, ◌+◌, ◌-◌, ◌<◌, ◌≤◌, true, false, List, [], ◌∷◌, ℤ, ◌≤ℤ◌, ◌<ℤ◌, Some, None, sym, refl, ap, ◌∙◌, add-zero, add-one, arith}
 use native.Mathlib.Nat.{sub-zero}
 use lib.Signed.{lt_z, le_z}
 use Rattle.std.proofs.lemmas.Int.{ints, by_lt_z}
-use Rattle.std.proofs.lemmas.Bool.{cases_order}
 use Rattle.zone_rule.specs.declared.step.Step.{Step}
 use Rattle.zone_rule.specs.Steps.{offset_at, change_in, alters_at}
 use Rattle.zone_rule.proofs.Changes.{under, upon}
@@ -11,26 +10,6 @@ use Rattle.file_zone.specs.Blocks.{second_at, index_of, offset_of, offset_after,
 
 left : (n k : ℕ) → k < n → n - k ≡ suc (n - (k + 1))
 left n k h = omega arith
-
-none_left : (n k : ℕ) → n ≤ k → n - k ≡ 0
-none_left n k h = omega arith
-
-module _ (at : ℕ → ℤ) (n : ℕ) (rises : (j k : ℕ) → j < k → k < n → at j <ℤ at k) (s : ℤ) (m : ℕ) (inside : m < n) where
-  -- all up to the middle are passed
-  pub passed_to : at m ≤ℤ s → (j : ℕ) → j < m + 1 → at j ≤ℤ s
-  passed_to e j h =
-      elim (cases_order j m) [
-        | inl p ↦ rw p e
-        | inr q ↦ elim q [ inl l ↦ let r = rises j m l inside in omega (arith, ints) | inr l ↦ absurd (omega arith) ]
-      ]
-
-  -- none from the middle on is
-  pub ahead_from : s <ℤ at m → (j : ℕ) → m ≤ j → j < n → s <ℤ at j
-  ahead_from e j h k =
-      elim (cases_order m j) [
-        | inl p ↦ rw (← p) e
-        | inr q ↦ elim q [ inl l ↦ let r = rises m j l k in omega (arith, ints) | inr l ↦ absurd (omega arith) ]
-      ]
 
 -- the offset after the transitions k, k + 1 and so on, d of them
 abbrev last_of : List ℕ → ℕ → ℤ → ℕ → ℕ → ℤ
@@ -107,6 +86,3 @@ module _ (b : List ℕ) (n : ℕ) (s t : ℤ) where
       let q : le_z t (second_at b k) ≡ false = grind (arith, ints) in
       let a : alters_at o s (second_at b k) (offset_of b n (index_of b n k)) ≡ false = grind (arith, ints) in
       rw (left n k h, q, a, d, add-one)
-
-  pub change_none : (k : ℕ) (o : ℤ) → n ≤ k → change_in o (steps_from b n k (n - k)) s t ≡ None
-  change_none k o h = rw (none_left n k h)

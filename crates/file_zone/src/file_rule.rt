@@ -1,10 +1,10 @@
 // The rule of a zone that views a file.
 ghost use Rattle.std.specs.Prelude.{◌≡◌, ◌+◌, ◌*◌, ◌≤◌, length};
-ghost use Rattle.file_zone.specs.Files.{part_of, told_in, change_of, file_tells};
-ghost use Rattle.file_zone.specs.Telling.{told_by, bytes_of};
+ghost use Rattle.file_zone.specs.Files.{part_of, file_tells};
+ghost use Rattle.file_zone.specs.Telling.{told_by, bytes_of, IsBlockOf};
 ghost use Rattle.tzif.specs.File.{checked};
 
-use crate::lookup::{look_up, next_change};
+use crate::block::Block;
 use crate::zone_file::ZoneFile;
 use timebase::fault::Fault;
 use tzif::check::check;
@@ -28,6 +28,17 @@ impl<'f> ZoneFile<'f> {
     {
         self.layout
     }
+
+    // The second block of a good file.
+    fn block(&self) -> Result<Block<'f>, Fault>
+        ensures { IsBlockOf (bytes_of self.now) (checked (bytes_of self.now)) result }
+    {
+        let layout = self.layout?;
+        Ok(Block {
+            bytes: part(self.bytes, layout),
+            times: layout.times,
+        })
+    }
 }
 
 // The second block of a file, from its transition seconds to its type records.
@@ -36,33 +47,8 @@ fn part<'f>(file: &'f [u8], layout: Layout) -> &'f [u8]
     ensures { result.now ≡ part_of file.now layout }
 {
     let start = layout.block;
-    let end = layout.block + 9 * layout.times + 6 * layout.types;
+    let end = start + 9 * layout.times + 6 * layout.types;
     &file[start..end]
-}
-
-fn value_at(file: &[u8], layout: Result<Layout, Fault>, second: i64) -> Value
-    requires { layout ≡ checked file.now }
-    ensures { result ≡ told_in file.now layout second }
-{
-    match layout {
-        Ok(l) => Value::Offset(look_up(part(file, l), l.times, second)),
-        Err(_) => Value::Blank { cause: 1, depth: 0 },
-    }
-}
-
-fn change_between(
-    file: &[u8],
-    layout: Result<Layout, Fault>,
-    after: i64,
-    before: i64,
-) -> Option<i64>
-    requires { layout ≡ checked file.now }
-    ensures { result ≡ change_of file.now layout after before }
-{
-    match layout {
-        Ok(l) => next_change(part(file, l), l.times, after, before),
-        Err(_) => None,
-    }
 }
 
 impl ZoneRule for ZoneFile<'_> {
@@ -71,10 +57,16 @@ impl ZoneRule for ZoneFile<'_> {
     fn keeps_bounds(&self) {}
 
     fn value(&self, second: i64) -> Value {
-        value_at(self.bytes, self.layout, second)
+        match self.block() {
+            Ok(block) => Value::Offset(block.look_up(second)),
+            Err(_) => Value::Blank { cause: 1, depth: 0 },
+        }
     }
 
     fn change(&self, after: i64, before: i64) -> Option<i64> {
-        change_between(self.bytes, self.layout, after, before)
+        match self.block() {
+            Ok(block) => block.next_change(after, before),
+            Err(_) => None,
+        }
     }
 }

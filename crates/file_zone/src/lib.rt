@@ -1,7 +1,7 @@
 // Zones that view TZif files.
 #![tactic(auto)]
 
-mod bytes;
+mod block;
 pub mod file_rule;
 mod lookup;
 pub mod zone_file;

@@ -1,92 +1,95 @@
-// The look-up in a file's second block, which it is handed as a part of the file that starts in its middle.
-ghost use Rattle.std.specs.Prelude.{◌≡◌, ◌+◌, ◌*◌, ◌<◌, ◌≤◌, length};
-ghost use Rattle.file_zone.specs.Blocks.{second_at, index_of, offset_of, offset_after, steps_of, GoodBlock, Passed};
+// The look-up in a file's second block.
+ghost use Rattle.std.specs.Prelude.{◌≡◌, ℕ, List, slice_index_or, ◌+◌, ◌*◌, ◌<◌, ◌≤◌, length};
+ghost use Rattle.tzif.specs.Fields.{second8};
+ghost use Rattle.file_zone.specs.Blocks.{second_at, index_of, offset_of, offset_after, Passed};
+ghost use Rattle.file_zone.specs.Telling.{first_in, steps_in};
 ghost use Rattle.zone_rule.specs.Steps.{offset_at, change_in};
 
-use crate::bytes::{offset, second};
+use crate::block::Block;
 
 // From `second` on, the type `index` holds.
 #[derive(Clone, Copy)]
 struct Transition {
     second: i64,
-    index: u8,
+    index: usize,
 }
 
-// Takes transition k of `times` from a block: its second first, and then its type index.
-fn fetch(block: &[u8], times: usize, k: usize) -> Transition
-    requires { (GoodBlock block.now times) × (k < times) }
-    ensures second { result.second ≡ second_at block.now k }
-    ensures index { result.index ≡ index_of block.now times k }
+fn second(bytes: &[u8; 8]) -> i64
+    ensures { result ≡ second8 bytes.now 0 }
 {
-    let second = second(block, 8 * k);
-    let index = block[8 * times + k];
-    Transition { second, index }
+    i64::from_be_bytes(*bytes)
 }
 
-// How many of the transitions are not after a second. It halves what is left, so that of 2,000 it takes at most 11.
-fn passed(block: &[u8], times: usize, at: i64) -> usize
-    requires { GoodBlock block.now times }
-    ensures { Passed block.now times at result }
-{
-    let mut low = 0;
-    let mut high = times;
-    while low < high {
-        let middle = low + (high - low) / 2;
-        let t = fetch(block, times, middle);
-        if t.second <= at {
-            low = middle + 1;
+impl Block<'_> {
+    fn seconds(&self) -> &[[u8; 8]]
+        ensures value { (k : ℕ) (d : List ℕ) → k < self.now.times → second8 (slice_index_or result.now k d) 0 ≡ second_at self.now.bytes.now k }
+        ensures len { length result.now ≡ self.now.times }
+    {
+        self.bytes[..8 * self.times].as_chunks().0
+    }
+
+    // Transition k: its second and its type index stand apart.
+    fn transition(&self, k: usize) -> Transition
+        requires { k < self.now.times }
+        ensures second { result.second ≡ second_at self.now.bytes.now k }
+        ensures index { result.index ≡ index_of self.now.bytes.now self.now.times k }
+    {
+        let second = second(&self.seconds()[k]);
+        let index = usize::from(self.bytes[8 * self.times + k]);
+        Transition { second, index }
+    }
+
+    // How many of the transitions are not after a second: of 2,000 it looks at 12.
+    fn passed(&self, at: i64) -> usize
+        ensures { Passed self.now.bytes.now self.now.times at result }
+    {
+        self.seconds().partition_point(|t| second(t) <= at)
+    }
+
+    // The offset of a type.
+    fn type_offset(&self, index: usize) -> i32
+        requires { (9 * self.now.times + 6 * index + 6) ≤ length self.now.bytes.now }
+        ensures { result ≡ offset_of self.now.bytes.now self.now.times index }
+    {
+        let record = &self.bytes[9 * self.times + 6 * index..];
+        i32::from_be_bytes(*record.first_chunk().unwrap())
+    }
+
+    // The offset after the first `count` transitions.
+    fn offset_after(&self, count: usize) -> i32
+        requires { count ≤ self.now.times }
+        ensures { result ≡ offset_after self.now.bytes.now self.now.times count }
+    {
+        if count == 0 {
+            self.type_offset(0)
         } else {
-            high = middle;
+            self.type_offset(self.transition(count - 1).index)
         }
     }
-    low
-}
 
-// The offset of a type.
-fn type_offset(block: &[u8], times: usize, index: usize) -> i32
-    requires { (9 * times + 6 * index + 6) ≤ length block.now }
-    ensures { result ≡ offset_of block.now times index }
-{
-    offset(block, 9 * times + 6 * index)
-}
-
-// The offset after the first `count` transitions.
-fn offset_after(block: &[u8], times: usize, count: usize) -> i32
-    requires { (GoodBlock block.now times) × (count ≤ times) }
-    ensures { result ≡ offset_after block.now times count }
-{
-    if count == 0 {
-        type_offset(block, times, 0)
-    } else {
-        let t = fetch(block, times, count - 1);
-        type_offset(block, times, t.index as usize)
+    // The offset at a second.
+    pub(crate) fn look_up(&self, at: i64) -> i32
+        ensures { result ≡ offset_at (first_in self.now) (steps_in self.now) at }
+    {
+        self.offset_after(self.passed(at))
     }
-}
 
-// The offset at a second.
-pub(crate) fn look_up(block: &[u8], times: usize, at: i64) -> i32
-    requires { GoodBlock block.now times }
-    ensures { result ≡ offset_at (offset_of block.now times 0) (steps_of block.now times) at }
-{
-    offset_after(block, times, passed(block, times, at))
-}
-
-// The first second after `after` and before `before` from which another offset holds. Transitions that leave the offset
-// as it was are passed over.
-pub(crate) fn next_change(block: &[u8], times: usize, after: i64, before: i64) -> Option<i64>
-    requires { GoodBlock block.now times }
-    ensures { result ≡ change_in (offset_of block.now times 0) (steps_of block.now times) after before }
-{
-    let start = passed(block, times, after);
-    let offset = offset_after(block, times, start);
-    for k in start..times {
-        let t = fetch(block, times, k);
-        if before <= t.second {
-            return None;
+    // The first second after `after` and before `before` from which another offset holds. Transitions that leave the offset
+    // as it was are passed over.
+    pub(crate) fn next_change(&self, after: i64, before: i64) -> Option<i64>
+        ensures { result ≡ change_in (first_in self.now) (steps_in self.now) after before }
+    {
+        let start = self.passed(after);
+        let offset = self.offset_after(start);
+        for k in start..self.times {
+            let t = self.transition(k);
+            if before <= t.second {
+                return None;
+            }
+            if self.type_offset(t.index) != offset {
+                return Some(t.second);
+            }
         }
-        if type_offset(block, times, t.index as usize) != offset {
-            return Some(t.second);
-        }
+        None
     }
-    None
 }

@@ -1,8 +1,9 @@
 -- A file whose fields are all sound is good.
-use Rattle.std.proofs.Common.{◌≡◌, ℕ, suc, ◌+◌, ◌-◌, ◌*◌, ◌<◌, ◌≤◌, Bool, true, false, cond, ◌||◌, eqb, leb, List, [], ◌∷◌, ◌++◌, length, drop, ◌<ℤ◌, refl, ap, ◌∙◌, add-one, arith, length-drop, drop-cons}
+use Rattle.std.proofs.Common.{◌≡◌, ℕ, suc, ◌+◌, ◌-◌, ◌*◌, ◌<◌, ◌≤◌, Bool, true, false, cond, eqb, leb, List, [], ◌∷◌, ◌++◌, length, drop, ◌<ℤ◌, refl, ap, ◌∙◌, add-one, arith, length-drop, drop-cons}
 use lib.Signed.{lt_z}
 use Rattle.std.proofs.lemmas.Int.{ints}
 use Rattle.std.proofs.lemmas.Bool.{leb-true, eqb-true, eqb-false, ne_eqb, and_parts}
+use Rattle.std.proofs.lemmas.List.{nil_from_length}
 use Rattle.std.specs.List.{AllByRecursion}
 use Rattle.tzif.specs.declared.layout.Layout.{Layout}
 use Rattle.tzif.specs.Fields.{byte_at, number4, second8, Field, is_within, each}
@@ -30,16 +31,12 @@ module _ (f : List ℕ) where
     few_types = (within 1 256 (types f h) a.1.1.1.1.1.0.1).1;
   }
 
-  or_right : (x y : Bool) → (x || y) ≡ true → x ≡ false → y ≡ true
-  or_right true y e h = absurd (let z : ◌≡◌ {A = ℕ} 0 1 = cc in omega arith)
-  or_right false y e h = e
-
   rising : (b n : ℕ) → AllByRecursion (Sound f) (each (rising_at f b) 0 n) → (k : ℕ) → suc k < n → second8 f (b + 8 * k) <ℤ second8 f (b + 8 * suc k)
   rising b n a k h =
       let s = each_parts (Sound f) (rising_at f b) n 0 a (suc k) (omega arith) (omega arith) in
       let z : eqb (suc k) 0 ≡ false = ne_eqb (suc k) 0 (λ e. omega arith) in
       let d : suc k - 1 ≡ k = omega arith in
-      let l : lt_z (second8 f (b + 8 * (suc k - 1))) (second8 f (b + 8 * suc k)) ≡ true = or_right (eqb (suc k) 0) _ s.0.1 z in
+      let l : lt_z (second8 f (b + 8 * (suc k - 1))) (second8 f (b + 8 * suc k)) ≡ true = rw z at s.0.1 in
       let r : lt_z (second8 f (b + 8 * k)) (second8 f (b + 8 * suc k)) ≡ true = rw d at l in
       grind (arith, ints)
 
@@ -65,12 +62,8 @@ module _ (f : List ℕ) where
 abbrev OneLine : List ℕ → Type 0
 OneLine bs = (t : List ℕ) × (AllByRecursion (λ x. x ≡ 10 → ⊥) t) × (bs ≡ t ++ 10 ∷ [])
 
-no_more : (bs : List ℕ) → 1 ≡ suc (length bs) → bs ≡ []
-no_more [] e = refl
-no_more (b ∷ bs) e = absurd (omega arith)
-
 line_by : (b : ℕ) (bs : List ℕ) (t : Bool) → eqb b 10 ≡ t → suc (cond t 0 (suc (line_length bs))) ≡ suc (length bs) → (suc (line_length bs) ≡ length bs → OneLine bs) → OneLine (b ∷ bs)
-line_by b bs true q e r = ([], tt, ap (λ (x : ℕ). x ∷ bs) (eqb-true b 10 q) ∙ ap (λ (l : List ℕ). 10 ∷ l) (no_more bs e))
+line_by b bs true q e r = ([], tt, ap (λ (x : ℕ). x ∷ bs) (eqb-true b 10 q) ∙ ap (λ (l : List ℕ). 10 ∷ l) (nil_from_length bs (omega arith)))
 line_by b bs false q e r = let t = r (omega arith) in (b ∷ t.0, (eqb-false b 10 q, t.1), ap (λ l. b ∷ l) t.2)
 
 -- a line and its newline, and no more

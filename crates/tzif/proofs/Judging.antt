@@ -1,14 +1,16 @@
 -- How lists of fields are judged.
-use Rattle.std.proofs.Common.{◌≡◌, ℕ, zero, suc, ◌+◌, ◌-◌, ◌<◌, ◌≤◌, Bool, true, false, eqb, leb, ◌⊎◌, List, [], ◌∷◌, ◌++◌, length, get_or, drop, Some, None, Option, sym, refl, ap, ◌∙◌, inl, inr, add-one, arith, drop_of_length-le, drop-cons}
-use Rattle.std.specs.Option.{option_or as or_else}
-use Rattle.std.specs.List.{AllByRecursion}
+use Rattle.std.proofs.Common.{◌≡◌, ℕ, zero, suc, ◌+◌, ◌-◌, ◌<◌, ◌≤◌, Bool, true, false, not, eqb, leb, ◌⊎◌, List, [], ◌∷◌, ◌++◌, length, Some, None, Option, sym, refl, ap, ◌∙◌, inl, inr, add-one, arith}
+use Rattle.std.specs.Option.{option_or as or_else, unwrap_or}
+use Rattle.std.specs.List.{AllByRecursion, position, position_or_len}
+use Rattle.std.proofs.lemmas.List.Recursion.{is_position_or_len}
+use Rattle.std.proofs.lemmas.List.Sums.{prefix_len-le-length}
 use Rattle.std.proofs.ByRecursion.{All-append}
-use Rattle.std.proofs.lemmas.Bool.{leb-true, leb-false, le-leb, cases_lt}
+use Rattle.std.proofs.lemmas.Bool.{leb-true, leb-false, le-leb, lt-ltb, le-ltb, cases_lt}
 use Rattle.tzif.specs.Fields.{Field, each, wrong_at, first_wrong}
 use Rattle.tzif.specs.File.{times, types, others, second_header, second_block, line_length, footer, footer_place, second_half}
 use Rattle.tzif.specs.Places.{Sound, Wrong, FirstWrong}
 
-or_none : (o : Option ℕ) → o ≡ or_else o None
+pub or_none : (o : Option ℕ) → o ≡ or_else o None
 or_none None = refl
 or_none (Some p) = refl
 
@@ -41,24 +43,17 @@ module _ (f : List ℕ) (fields : ℕ → List Field) (n k : ℕ) (more : k < n)
   pub each_stop : {p : ℕ} → Some p ≡ first_wrong f (fields k) → first_wrong f (each fields k (n - k)) ≡ Some p
   each_stop e = rw (left n k more, first_append f (fields k) (each fields (suc k) (n - (k + 1))), ← e)
 
--- the same where each element is one field
-module _ (f : List ℕ) (field : ℕ → Field) (n k : ℕ) (more : k < n) where
-  pub one_more : None ≡ wrong_at f (field k) → first_wrong f (each (λ i. field i ∷ []) k (n - k)) ≡ first_wrong f (each (λ i. field i ∷ []) (k + 1) (n - (k + 1)))
-  one_more e = each_more f (λ i. field i ∷ []) n k more (e ∙ or_none (wrong_at f (field k)))
+-- the length of a line is the place of its newline
+line_is : (bs : List ℕ) → line_length bs ≡ position_or_len (λ b. eqb b 10) bs
+line_is bs = is_position_or_len line_length (λ b. eqb b 10) refl (λ b bs. grind arith) bs
 
-  pub one_stop : {p : ℕ} → Some p ≡ wrong_at f (field k) → first_wrong f (each (λ i. field i ∷ []) k (n - k)) ≡ Some p
-  one_stop e = each_stop f (λ i. field i ∷ []) n k more (e ∙ or_none (wrong_at f (field k)))
-
--- ── a line's length, byte by byte ──
-
-pub line_more : (bs : List ℕ) (i : ℕ) → i < length bs → eqb (get_or bs i 0) 10 ≡ false → line_length (drop i bs) ≡ suc (line_length (drop (i + 1) bs))
-line_more bs i h e = rw (add-one, drop-cons bs i 0 h, e)
-
-pub line_stop : (bs : List ℕ) (i : ℕ) → i < length bs → eqb (get_or bs i 0) 10 ≡ true → line_length (drop i bs) ≡ 0
-line_stop bs i h e = rw (drop-cons bs i 0 h, e)
-
-pub line_all : (bs : List ℕ) (i : ℕ) → length bs ≤ i → line_length (drop i bs) ≡ 0
-line_all bs i h = rw (drop_of_length-le bs h)
+pub line_found : (bs : List ℕ) → unwrap_or (position (λ b. eqb b 10) bs) (length bs) ≡ line_length bs
+line_found bs =
+    let e = line_is bs in
+    elim (cases_lt (position_or_len (λ b. eqb b 10) bs) (length bs)) [
+      | inl h ↦ rw (lt-ltb _ _ h) (sym e)
+      | inr h ↦ let most = prefix_len-le-length (λ b. not (eqb b 10)) bs in rw (le-ltb _ _ h) (omega arith)
+    ]
 
 -- ── what a judgement says ──
 

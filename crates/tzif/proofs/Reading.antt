@@ -1,6 +1,6 @@
 -- What an answer of the check says of its file.
-use Rattle.std.proofs.Common.{◌≡◌, ℕ, min, Bool, true, false, cond, ltb, List, length, Some, None, Ok, Err, Option, Result, sym, refl, inl, inr, arith}
-use Rattle.std.proofs.lemmas.Bool.{ltb-true, ltb-false}
+use Rattle.std.proofs.Common.{◌≡◌, ℕ, ◌<◌, ◌≤◌, min, Bool, true, false, cond, ltb, List, length, Some, None, Ok, Err, Option, Result, sym, refl, ap, inl, inr, arith}
+use Rattle.std.proofs.lemmas.Bool.{ltb-true, ltb-false, lt-ltb, le-ltb}
 use Rattle.timebase.specs.declared.fault.Fault.{Fault}
 use Rattle.tzif.specs.declared.layout.Layout.{Layout}
 use Rattle.tzif.specs.Fields.{first_wrong}
@@ -34,6 +34,21 @@ module _ (f : List ℕ) where
   all_right : (r : Result Layout Fault) → r ≡ checked f → Right r
   unfolding checked
   all_right r e = rw e (by_place (first_wrong f (fields_of f)) refl)
+
+  -- how it comes to its answer
+  pub wrong_answer : {p : ℕ} → Some p ≡ first_wrong f (fields_of f) → Err (refused p) ≡ checked f
+  unfolding checked
+  wrong_answer e = ap (answer f) e
+
+  by_size : (long : Bool) → None ≡ first_wrong f (fields_of f) → ltb 65536 (length f) ≡ long → cond long (Err (refused 65536)) (Ok (layout_at f (header_place f))) ≡ checked f
+  unfolding checked
+  by_size long n e = rw (← n, e)
+
+  pub long_answer : None ≡ first_wrong f (fields_of f) → 65536 < length f → Err (refused 65536) ≡ checked f
+  long_answer n h = by_size true n (lt-ltb _ _ h)
+
+  pub good_answer : None ≡ first_wrong f (fields_of f) → length f ≤ 65536 → Ok (layout_at f (header_place f)) ≡ checked f
+  good_answer n h = by_size false n (le-ltb _ _ h)
 
   pub judged : (r : Result Layout Fault) → r ≡ checked f → Judged f r
   judged r e = (all_right r e).0

@@ -1,8 +1,9 @@
 -- The fields of a file, and how they are judged in order.
-use Rattle.std.specs.Prelude.{ℕ, zero, suc, ◌+◌, ◌*◌, Bool, true, cond, ◌&&◌, List, [], ◌∷◌, ◌++◌, length, ℤ, Some, None, Option, nat_le, slice_index}
+use Rattle.std.specs.Prelude.{ℕ, zero, suc, ◌+◌, ◌*◌, Bool, true, cond, ◌&&◌, List, [], ◌∷◌, ◌++◌, length, ℤ, Some, None, Ok, Err, Option, Result, nat_le, slice_index}
 use Rattle.std.specs.Int.{w32, w64}
 use Rattle.std.proofs.Common.{to_z}
 use Rattle.std.specs.Option.{option_or as or_else}
+use Rattle.tzif.specs.declared.field.WrongAt.{WrongAt}
 
 -- ── what is read at place p of a file: big-endian numbers; to_z reads bits as two's complement ──
 
@@ -57,3 +58,8 @@ wrong_at f x = cond (nat_le (x.place + x.size) (length f)) (cond x.right None (S
 abbrev pub first_wrong : List ℕ → List Field → Option ℕ
 first_wrong f [] = None
 first_wrong f (x ∷ xs) = or_else (wrong_at f x) (first_wrong f xs)
+
+-- where an answer of the code refuses its file, if it does
+abbrev pub wrong_place : {T : Type 0} → Result T WrongAt → Option ℕ
+wrong_place (Ok x) = None
+wrong_place (Err w) = Some w.at

@@ -4,14 +4,13 @@
 // A header has 44 bytes: the magic number, a version byte, 15 unused bytes and six counts of 4 bytes each: isut, isstd,
 // leap, time, type, char. Each header has its block. Those of the first are for readers of 32-bit times: they are passed
 // over, and only its magic number and version are judged.
-ghost use Rattle.std.specs.Prelude.{◌≡◌, ℕ, ◌+◌, ◌*◌, ◌≤◌, length, drop, IfOk, OnOk};
-ghost use Rattle.std.specs.Result.{result_err};
-ghost use Rattle.tzif.specs.Fields.{each, first_wrong};
-ghost use Rattle.tzif.specs.File.{times as times_of, types as types_of, others as others_of, first_block, counts as counts_of, second_header, rising_at, index_at, type_at, second_block, line_length, last_line, footer as footer_of, second_half, header_place, layout_at, fields_of, refused, checked};
+ghost use Rattle.std.specs.Prelude.{◌≡◌, ℕ, List, Result, ◌<◌, ◌+◌, ◌*◌, ◌^◌, ◌≤◌, length, drop, IfOk, OnOk};
+ghost use Rattle.tzif.specs.Fields.{Field, each as fields_of_each, first_wrong, wrong_place};
+ghost use Rattle.tzif.specs.File.{times as times_of, types as types_of, others as others_of, first_block, second_header, rising_at, type_at, second_block, line_length, footer as footer_of, second_half, header_place, layout_at, fields_of, refused, checked};
 ghost use Rattle.tzif.specs.Good.{Judged};
 ghost use Rattle.tzif.specs.Places.{Placed, CutsAreTold};
 
-use crate::field::{byte_in, number, number_in, offset, second, skip};
+use crate::field::{WrongAt, byte_in, number, number_in, offset, second, skip};
 use crate::layout::{Counts, Layout};
 use timebase::fault::Fault;
 use zone::offset::is_offset;
@@ -30,24 +29,11 @@ const TYPES_MOST: u32 = 256;
 
 const NEWLINE: u8 = 10;
 
-// The size of the first block: counts of 32 bits, so that no sum of theirs leaves 64.
-fn first_block(file: &[u8]) -> usize
-    requires { 44 ≤ length file.now }
-    ensures { result ≡ first_block file.now }
-{
-    let isuts = number(file, 20) as usize;
-    let isstds = number(file, 24) as usize;
-    let leaps = number(file, 28) as usize;
-    let times = number(file, 32) as usize;
-    let types = number(file, 36) as usize;
-    let chars = number(file, 40) as usize;
-    times * 5 + types * 6 + chars + leaps * 8 + isstds + isuts
-}
-
-// How many bytes of the second block stand after its types; the second header stands at `at`.
+// How many bytes of a block are of no transition, type or leap second; its header stands at `at`.
 fn others(file: &[u8], at: usize) -> usize
     requires { at + 44 ≤ length file.now }
-    ensures { result ≡ others_of file.now at }
+    ensures value { result ≡ others_of file.now at }
+    ensures few { result < 2 ^ 34 }
 {
     let isuts = number(file, at + 20) as usize;
     let isstds = number(file, at + 24) as usize;
@@ -55,13 +41,26 @@ fn others(file: &[u8], at: usize) -> usize
     chars + isstds + isuts
 }
 
-// The counts of the second header, at `at`.
-fn counts(file: &[u8], at: usize) -> Result<Counts, usize>
-    requires { at + 28 ≤ length file.now }
-    ensures wrong { result_err result ≡ first_wrong file.now (counts_of file.now at) }
-    ensures value { IfOk result (λ c. (c.times ≡ times_of file.now at) × (c.types ≡ types_of file.now at) × (c.others ≡ others_of file.now at)) }
-    ensures near { IfOk result (λ c. (at + 44 ≤ length file.now) × (c.times ≤ 2000) × (1 ≤ c.types) × (c.types ≤ 256)) }
+// The size of the first block: counts of 32 bits, so that no sum of theirs leaves 64.
+fn first_block(file: &[u8]) -> usize
+    requires { 44 ≤ length file.now }
+    ensures { result ≡ first_block file.now }
 {
+    let leaps = number(file, 28) as usize;
+    let times = number(file, 32) as usize;
+    let types = number(file, 36) as usize;
+    times * 5 + types * 6 + leaps * 8 + others(file, 0)
+}
+
+// The second header, at `at`: it is of the first one's version, and its counts are judged.
+fn second_header(file: &[u8], at: usize, version: u8) -> Result<Counts, WrongAt>
+    ensures wrong { wrong_place result ≡ first_wrong file.now (second_header file.now at version) }
+    ensures value { IfOk result (λ c. (c.times ≡ times_of file.now at) × (c.types ≡ types_of file.now at) × (c.others ≡ others_of file.now at)) }
+    ensures near { OnOk result (at + 44 ≤ length file.now) }
+{
+    number_in(file, at, MAGIC, MAGIC)?;
+    byte_in(file, at + 4, version, version)?;
+    skip(file, at + 5, 23)?;
     number_in(file, at + 28, 0, 0)?;
     let times = number_in(file, at + 32, 0, TIMES_MOST)? as usize;
     let types = number_in(file, at + 36, 1, TYPES_MOST)? as usize;
@@ -73,145 +72,91 @@ fn counts(file: &[u8], at: usize) -> Result<Counts, usize>
     })
 }
 
-// The second header, at `at`: it is of the first one's version.
-fn second_header(file: &[u8], at: usize, version: u8) -> Result<Counts, usize>
-    ensures wrong { result_err result ≡ first_wrong file.now (second_header file.now at version) }
-    ensures value { IfOk result (λ c. (c.times ≡ times_of file.now at) × (c.types ≡ types_of file.now at) × (c.others ≡ others_of file.now at)) }
-    ensures near { IfOk result (λ c. (at + 44 ≤ length file.now) × (c.times ≤ 2000) × (1 ≤ c.types) × (c.types ≤ 256)) }
+// The checks of `count` elements, in order; the first wrong one ends them.
+// The library's `try_for_each` promises only its calls: each use would need an induction from them to the fields.
+fn each<T: Drop, F: Fn(usize) -> Result<T, WrongAt>>(count: usize, check: F) -> Result<(), WrongAt>
+    requires { (k : ℕ) → k < count → F.pre check k }
+    ensures { (file : List ℕ) (fields : ℕ → List Field) → ((k : ℕ) (r : Result T WrongAt) → k < count → F.post check k r → wrong_place r ≡ first_wrong file (fields k)) → wrong_place result ≡ first_wrong file (fields_of_each fields 0 count) }
 {
-    number_in(file, at, MAGIC, MAGIC)?;
-    byte_in(file, at + 4, version, version)?;
-    skip(file, at + 5, 23)?;
-    counts(file, at)
+    for k in 0..count {
+        check(k)?;
+    }
+    Ok(())
 }
 
 // Transition second `k` of the block at `block`, past the one before it.
-fn rising_at(file: &[u8], block: usize, k: usize) -> Result<(), usize>
-    requires { block + 8 * k ≤ length file.now }
-    ensures wrong { result_err result ≡ first_wrong file.now (rising_at file.now block k) }
-    ensures near { OnOk result (block + 8 * (k + 1) ≤ length file.now) }
+fn rising_at(file: &[u8], block: usize, k: usize) -> Result<(), WrongAt>
+    requires { block + 8 * k < 2 ^ 64 }
+    ensures { wrong_place result ≡ first_wrong file.now (rising_at file.now block k) }
 {
     let at = block + 8 * k;
     skip(file, at, 8)?;
     if k > 0 && second(file, at) <= second(file, block + 8 * (k - 1)) {
-        return Err(at);
+        return Err(WrongAt { at });
     }
     Ok(())
 }
 
 // Type `k` of those from `at` on: an offset, and two bytes more.
-fn type_at(file: &[u8], at: usize, k: usize) -> Result<(), usize>
-    requires { at + 6 * k ≤ length file.now }
-    ensures wrong { result_err result ≡ first_wrong file.now (type_at file.now at k) }
-    ensures near { OnOk result (at + 6 * (k + 1) ≤ length file.now) }
+fn type_at(file: &[u8], at: usize, k: usize) -> Result<usize, WrongAt>
+    requires { at + 6 * k < 2 ^ 64 }
+    ensures { wrong_place result ≡ first_wrong file.now (type_at file.now at k) }
 {
     let place = at + 6 * k;
     skip(file, place, 4)?;
     if !is_offset(offset(file, place)) {
-        return Err(place);
+        return Err(WrongAt { at: place });
     }
-    skip(file, place + 4, 2)?;
-    Ok(())
+    skip(file, place + 4, 2)
 }
 
-// The first `count` transition seconds of the block at `block`.
-fn seconds(file: &[u8], block: usize, count: usize) -> Result<(), usize>
+// The second block, at `block`; the place after it.
+fn second_block(file: &[u8], block: usize, counts: Counts) -> Result<usize, WrongAt>
     requires { block ≤ length file.now }
-    ensures wrong { result_err result ≡ first_wrong file.now (each (rising_at file.now block) 0 count) }
-    ensures near { OnOk result (block + 8 * count ≤ length file.now) }
+    ensures wrong { wrong_place result ≡ first_wrong file.now (second_block file.now block counts.times counts.types counts.others) }
+    ensures near { IfOk result (λ p. p ≡ block + 9 * counts.times + 6 * counts.types + counts.others) }
 {
-    for k in 0..count {
-        rising_at(file, block, k)?;
-    }
-    Ok(())
-}
-
-// The first `count` type indexes from `at` on, each below the count of types.
-fn indexes(file: &[u8], at: usize, types: usize, count: usize) -> Result<(), usize>
-    requires { (at ≤ length file.now) × ((1 ≤ types) × (types ≤ 256)) }
-    ensures wrong { result_err result ≡ first_wrong file.now (each (index_at file.now at types) 0 count) }
-    ensures near { OnOk result (at + count ≤ length file.now) }
-{
-    for k in 0..count {
-        byte_in(file, at + k, 0, (types - 1) as u8)?;
-    }
-    Ok(())
-}
-
-// The first `count` types from `at` on.
-fn types(file: &[u8], at: usize, count: usize) -> Result<(), usize>
-    requires { at ≤ length file.now }
-    ensures wrong { result_err result ≡ first_wrong file.now (each (type_at file.now at) 0 count) }
-    ensures near { OnOk result (at + 6 * count ≤ length file.now) }
-{
-    for k in 0..count {
-        type_at(file, at, k)?;
-    }
-    Ok(())
-}
-
-// The place after the second block, at `block`.
-fn second_block(file: &[u8], block: usize, counts: Counts) -> Result<usize, usize>
-    requires { (block ≤ length file.now) × ((counts.times ≤ 2000) × ((1 ≤ counts.types) × (counts.types ≤ 256))) }
-    ensures wrong { result_err result ≡ first_wrong file.now (second_block file.now block counts.times counts.types counts.others) }
-    ensures near { IfOk result (λ p. (p ≡ block + 9 * counts.times + 6 * counts.types + counts.others) × (p ≤ length file.now)) }
-{
-    let times = counts.times;
-    seconds(file, block, times)?;
-    indexes(file, block + 8 * times, counts.types, times)?;
-    types(file, block + 9 * times, counts.types)?;
-    skip(file, block + 9 * times + 6 * counts.types, counts.others)
+    let Counts {
+        times,
+        types,
+        others,
+    } = counts;
+    let indexes = block + 8 * times;
+    let records = block + 9 * times;
+    each(times, |k| rising_at(file, block, k))?;
+    each(times, |k| byte_in(file, indexes + k, 0, (types - 1) as u8))?;
+    each(types, |k| type_at(file, records, k))?;
+    skip(file, records + 6 * types, others)
 }
 
 // How many bytes stand before the first newline, or at all.
 fn line_length(bytes: &[u8]) -> usize
-    ensures value { result ≡ line_length bytes.now }
-    ensures near { result ≤ length bytes.now }
+    ensures { result ≡ line_length bytes.now }
 {
-    for (i, b) in bytes.iter().enumerate() {
-        if *b == NEWLINE {
-            return i;
-        }
-    }
-    bytes.len()
+    bytes
+        .iter()
+        .position(|b| *b == NEWLINE)
+        .unwrap_or(bytes.len())
 }
 
-// How many bytes of the line at `at` stand before its newline, or at all.
-fn line_at(file: &[u8], at: usize) -> usize
-    requires { at ≤ length file.now }
-    ensures value { result ≡ line_length (drop at file.now) }
-    ensures near { at + result ≤ length file.now }
-{
-    line_length(&file[at..])
-}
-
-// The line of `size` bytes at `at`, with its newline, is the file's last.
-fn last_line(file: &[u8], at: usize, size: usize) -> Result<(), usize>
-    requires { at + size ≤ length file.now }
-    ensures { result_err result ≡ first_wrong file.now (last_line file.now at size) }
-{
-    let end = skip(file, at, size)?;
-    byte_in(file, end, NEWLINE, NEWLINE)?;
-    if end + 1 < file.len() {
-        return Err(end + 1);
-    }
-    Ok(())
-}
-
-// The place of the footer's text; the footer starts at `at`.
-fn footer(file: &[u8], at: usize) -> Result<usize, usize>
-    ensures wrong { result_err result ≡ first_wrong file.now (footer_of file.now at) }
+// The place of the footer's text; the footer starts at `at`. The text is a line, and its newline is the file's last byte.
+fn footer(file: &[u8], at: usize) -> Result<usize, WrongAt>
+    ensures wrong { wrong_place result ≡ first_wrong file.now (footer_of file.now at) }
     ensures near { IfOk result (λ t. t ≡ at + 1) }
 {
     byte_in(file, at, NEWLINE, NEWLINE)?;
     let text = at + 1;
-    last_line(file, text, line_at(file, text))?;
+    let end = skip(file, text, line_length(&file[text..]))?;
+    byte_in(file, end, NEWLINE, NEWLINE)?;
+    if end + 1 < file.len() {
+        return Err(WrongAt { at: end + 1 });
+    }
     Ok(text)
 }
 
 // The second header, at `header`, and all that follows it.
-fn second_half(file: &[u8], header: usize, version: u8) -> Result<Layout, usize>
-    ensures wrong { result_err result ≡ first_wrong file.now (second_half file.now header version) }
+fn second_half(file: &[u8], header: usize, version: u8) -> Result<Layout, WrongAt>
+    ensures wrong { wrong_place result ≡ first_wrong file.now (second_half file.now header version) }
     ensures value { IfOk result (λ l. l ≡ layout_at file.now header) }
 {
     let counts = second_header(file, header, version)?;
@@ -227,8 +172,8 @@ fn second_half(file: &[u8], header: usize, version: u8) -> Result<Layout, usize>
 }
 
 // Goes through all fields of a file, and finds its parts.
-fn parse(file: &[u8]) -> Result<Layout, usize>
-    ensures wrong { result_err result ≡ first_wrong file.now (fields_of file.now) }
+fn parse(file: &[u8]) -> Result<Layout, WrongAt>
+    ensures wrong { wrong_place result ≡ first_wrong file.now (fields_of file.now) }
     ensures value { IfOk result (λ l. l ≡ layout_at file.now (header_place file.now)) }
 {
     number_in(file, 0, MAGIC, MAGIC)?;
@@ -238,23 +183,14 @@ fn parse(file: &[u8]) -> Result<Layout, usize>
     second_half(file, header, version)
 }
 
-// The refusal at a place, which is never past the limit.
-fn refusal(place: usize) -> Fault
-    ensures { result ≡ refused place }
-{
-    Fault::BadFile {
-        at: place.min(FILE_LIMIT),
-    }
-}
+impl From<WrongAt> for Fault {
+    ghost from_gives = { λ wrong fault. fault ≡ refused wrong.at };
 
-// Judges a file by its fields, and then by its length.
-fn judge(file: &[u8]) -> Result<Layout, Fault>
-    ensures { result ≡ checked file.now }
-{
-    match parse(file) {
-        Err(place) => Err(refusal(place)),
-        Ok(_) if FILE_LIMIT < file.len() => Err(refusal(FILE_LIMIT)),
-        Ok(layout) => Ok(layout),
+    // The refusal at a place, which is never past the limit.
+    fn from(wrong: WrongAt) -> Fault {
+        Fault::BadFile {
+            at: wrong.at.min(FILE_LIMIT),
+        }
     }
 }
 
@@ -265,7 +201,11 @@ pub fn check(file: &[u8]) -> Result<Layout, Fault>
     ensures good { Judged file.now result }
     ensures place { Placed file.now result }
 {
-    judge(file)
+    let layout = parse(file)?;
+    if FILE_LIMIT < file.len() {
+        return Err(Fault::BadFile { at: FILE_LIMIT });
+    }
+    Ok(layout)
 }
 
 // The contract is the point, and the code only carries it: a file that is cut before the place of its refusal, or anywhere

@@ -1,6 +1,7 @@
 // What is found in a file.
+ghost use Rattle.std.specs.Prelude.{◌≤◌};
 
-// Where the parts of a good file stand that a look-up reads.
+// Where the parts of a good file stand that a look-up reads: places, since the type is public and has no lifetime.
 #[derive(Clone, Copy)]
 pub struct Layout {
     // the place of the second block, which starts with its transition seconds
@@ -22,4 +23,5 @@ pub(crate) struct Counts {
     pub(crate) types: usize,
     // bytes of the second block after its types
     pub(crate) others: usize,
+    ghost judged: { (times ≤ 2000) × (1 ≤ types) × (types ≤ 256) },
 }

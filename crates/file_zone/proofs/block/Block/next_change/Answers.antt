@@ -1,7 +1,7 @@
 use Rattle.std.proofs.Common.{◌≡◌, arith}
 use Rattle.std.proofs.lemmas.Int.{ints, to_z-of_z}
 use Rattle.file_zone.proofs.Lookups.{change_start, change_stop, change_here, change_more}
-use Rattle.file_zone.proofs.lookup.next_change.Goals as goal
+use Rattle.file_zone.proofs.block.Block.next_change.Goals as goal
 
 pub loop-k-init : goal.loop-k-init
 loop-k-init c = grind (arith, to_z-of_z, change_start)

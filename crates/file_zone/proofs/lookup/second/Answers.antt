@@ -1,6 +1,6 @@
 use Rattle.std.proofs.Common.{rules}
 use Rattle.tzif.specs.Fields.{number8, second8}
-use Rattle.file_zone.proofs.bytes.second.Goals as goal
+use Rattle.file_zone.proofs.lookup.second.Goals as goal
 
 pub returns : goal.returns
 unfolding number8 second8
