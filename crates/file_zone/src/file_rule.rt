@@ -59,7 +59,7 @@ impl ZoneRule for ZoneFile<'_> {
     fn value(&self, second: i64) -> Value {
         match self.block() {
             Ok(block) => Value::Offset(block.look_up(second)),
-            Err(_) => Value::Blank { cause: 1, depth: 0 },
+            Err(_) => Value::BADLY_MADE,
         }
     }
 

@@ -9,7 +9,7 @@ ghost use Rattle.writing.specs.Putting.{Puts};
 use crate::line::read_line;
 use crate::lines::Lines;
 use planboard::board::Board;
-use span_text::write::put_text;
+use span_text::write::put_span;
 use timebase::fault::{Fault, Told};
 use timebase::span::Span;
 use writing::Writer;
@@ -84,7 +84,7 @@ fn put_answer(writer: &mut Writer, answer: Result<Span, Fault>)
     ensures { Puts writer.old (answer_text answer ++ (10 ∷ [])) writer.new }
 {
     match answer {
-        Ok(span) => put_text(writer, &span),
+        Ok(span) => put_span(writer, &span),
         Err(fault) => put_refusal(writer, fault.told()),
     }
     writer.put_byte(b'\n');

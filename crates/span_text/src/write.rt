@@ -3,7 +3,6 @@ ghost use Rattle.std.specs.Prelude.{◌≡◌, [], ◌∷◌};
 ghost use Rattle.span_text.specs.Canonical.{date_text, is_nought, part_text, seconds_text, span_text, time_text};
 ghost use Rattle.span_text.specs.Canonical.{write_answer, write_memory};
 ghost use Rattle.span_text.specs.RoundTrip.{ReadsBack};
-ghost use Rattle.writing.specs.Placing.{Placed};
 ghost use Rattle.writing.specs.Putting.{Puts};
 
 use timebase::fault::Fault;
@@ -73,7 +72,7 @@ fn is_nought(span: &Span) -> bool
 
 // Puts the text of a span, as much of it as fits: a piece of a longer text. Of a span that a text can enter, it is the
 // canonical text.
-pub fn put_text(writer: &mut Writer, span: &Span)
+pub fn put_span(writer: &mut Writer, span: &Span)
     ensures { Puts writer.old (span_text span.now) writer.new }
 {
     if is_nought(span) {
@@ -86,15 +85,6 @@ pub fn put_text(writer: &mut Writer, span: &Span)
     writer.put_byte(b'P');
     put_date(writer, span);
     put_time(writer, span.time.unsigned_abs());
-}
-
-// Puts the same at a place of the buffer, and answers the place after it, for a caller that keeps the place itself.
-pub fn put_span(out: &mut [u8], at: usize, span: &Span) -> usize
-    ensures { Placed out.old at (span_text span.now) out.new result }
-{
-    let mut writer = Writer { out, at };
-    put_text(&mut writer, span);
-    writer.at
 }
 
 // Writes the canonical text of a span at the start of the buffer, and answers its length. Refused are a span that no text
@@ -110,5 +100,7 @@ pub fn write_span(span: &Span, out: &mut [u8]) -> Result<usize, Fault>
     if out.len() < ROOM {
         return Err(Fault::BufferSmall);
     }
-    Ok(put_span(out, 0, span))
+    let mut writer = Writer { out, at: 0 };
+    put_span(&mut writer, span);
+    Ok(writer.at)
 }

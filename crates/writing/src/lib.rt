@@ -4,7 +4,6 @@
 
 ghost use Rattle.std.specs.Prelude.{[], ◌∷◌, decimal};
 ghost use Rattle.writing.specs.Fractions.{point_text};
-ghost use Rattle.writing.specs.Placing.{Placed};
 ghost use Rattle.writing.specs.Putting.{Puts};
 
 use itoa::Buffer;
@@ -62,43 +61,4 @@ impl<'b> Writer<'b> {
             rest %= unit;
         }
     }
-}
-
-// ── one piece at a place: these stay beside the writer, for callers that keep the place themselves ──
-
-// Puts bytes at a place of the buffer, as many as fit, and answers the place after them.
-pub fn put_bytes(out: &mut [u8], at: usize, bytes: &[u8]) -> usize
-    ensures { Placed out.old at bytes.now out.new result }
-{
-    let mut writer = Writer { out, at };
-    writer.put_bytes(bytes);
-    writer.at
-}
-
-// Puts one byte at a place of the buffer, if it fits, and answers the place after it.
-pub fn put_byte(out: &mut [u8], at: usize, b: u8) -> usize
-    ensures { Placed out.old at (b ∷ []) out.new result }
-{
-    let mut writer = Writer { out, at };
-    writer.put_byte(b);
-    writer.at
-}
-
-// Puts the decimal digits of a number, as many as fit, and answers the place after them.
-pub fn put_number(out: &mut [u8], at: usize, n: u64) -> usize
-    ensures { Placed out.old at (decimal n) out.new result }
-{
-    let mut writer = Writer { out, at };
-    writer.put_number(n);
-    writer.at
-}
-
-// Puts the fraction of a second, as much of it as fits, and answers the place after it: a point and up to six digits
-// without final zeros, or nothing where there is no fraction. Whole seconds in `micros` don't count.
-pub fn put_point(out: &mut [u8], at: usize, micros: u32) -> usize
-    ensures { Placed out.old at (point_text micros) out.new result }
-{
-    let mut writer = Writer { out, at };
-    writer.put_point(micros);
-    writer.at
 }

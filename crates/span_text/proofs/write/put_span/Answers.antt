@@ -4,8 +4,8 @@ use Rattle.writing.proofs.Puttings.{puts_none, puts_more}
 use Rattle.span_text.specs.Canonical.{sign_text}
 use Rattle.span_text.proofs.Endings.{span_some}
 use Rattle.span_text.proofs.Pieces.{span_nought}
-use Rattle.span_text.proofs.write.put_text.Goals.{then-is_minus, else-is_minus}
-use Rattle.span_text.proofs.write.put_text.Goals as goal
+use Rattle.span_text.proofs.write.put_span.Goals.{then-is_minus, else-is_minus}
+use Rattle.span_text.proofs.write.put_span.Goals as goal
 
 pub returns-then-is_nought : goal.returns-then-is_nought
 returns-then-is_nought c = rw (span_nought c.args.span.now (sym c.if-is_nought.ensures)) c.put_bytes.ensures
