@@ -1,4 +1,4 @@
-use Rattle.std.proofs.Common.{sym, rules}
+use Rattle.std.proofs.Common.{codes, sym, rules}
 use Rattle.writing.specs.Putting.{Puts}
 use Rattle.writing.proofs.Puttings.{puts_none, puts_more}
 use Rattle.span_text.specs.Canonical.{sign_text}
@@ -13,7 +13,9 @@ returns-then-is_nought c = rw (span_nought c.args.span.now (sym c.if-is_nought.e
 pub returns : goal.returns
 returns c =
     let sign : Puts c.args.writer.now (sign_text c.is_minus.result) c.if-is_minus.writer = elim c.if-is_minus.branch [
-      | then-is_minus w ↦ rw (w.writer-is, w.if-is_minus.true) w.put_byte.ensures
+      | then-is_minus w ↦
+          let minus : Puts c.args.writer.now (codes "-") w.put_byte.new.self = w.put_byte.ensures in
+          rw (w.writer-is, w.if-is_minus.true) minus
       | else-is_minus w ↦ rw (w.writer-is, w.if-is_minus.false) (puts_none _)
     ] in
     rw (span_some c.args.span.now c.is_minus.result c.unsigned_abs.result (sym c.if-is_nought.ensures) c.is_minus.ensures (search rules))
