@@ -24,14 +24,18 @@ pub record InRange (n : ℕ) : Type 0 where
   pub low : 1 ≤ n
   pub high : n ≤ 3652059
 
--- the answer to "which date has day n": the date n - 1 days after the first
+-- day n has the date d: the one n - 1 days after that of day 1
+abbrev pub HasDate : Years → ℕ → Date → Type 0
+HasDate ys n d = InRange n × (d ≡ after ys.shape ys.origin (n - 1))
+
+-- the answer to "which date has day n"
 abbrev pub DateAnswer : Years → ℕ → Option Date → Type 0
-DateAnswer ys n (Some d) = InRange n × (d ≡ after ys.shape ys.origin (n - 1))
+DateAnswer ys n (Some d) = HasDate ys n d
 DateAnswer ys n None = InRange n → ⊥
 
 -- the answer to "which day has this date"
 abbrev pub DayAnswer : Years → Date → Option ℕ → Type 0
-DayAnswer ys d (Some n) = InRange n × (d ≡ after ys.shape ys.origin (n - 1))
+DayAnswer ys d (Some n) = HasDate ys n d
 DayAnswer ys d None = (n : ℕ) → InRange n → d ≢ after ys.shape ys.origin (n - 1)
 
 -- a guess at the year in which day n lies: that year, or one beside it
