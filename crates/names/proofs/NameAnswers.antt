@@ -1,6 +1,7 @@
 -- What reading a name answers, by its form.
 use Rattle.std.proofs.Common.{◌≡◌, ℕ, ◌+◌, ◌≤◌, true, cond, ◌&&◌, eqb, leb, ◌⊎◌, List, [], ◌∷◌, Some, None, Ok, Result, sym, refl, ◌∙◌, subst, inl, inr}
 use Rattle.std.proofs.lemmas.Bool.{and_parts, and_from, or_cases, or_left, or_right, leb-true, le-leb, eqb-true}
+use Rattle.reading.specs.declared.Misread.{Misread}
 use Rattle.reading.specs.Reading.{read_on}
 use Rattle.reading.specs.Places.{AnswersWithin}
 use Rattle.reading.proofs.Machines.{none_some, err_ok, cond_some, first_step, go, answers, answers_within}
@@ -87,6 +88,6 @@ name_answers name =
     answers_within CalendarName 16 name (read_on stepped ended Begin 0 name)
     (answers stepped ended CalendarName live Begin (λ t v e. sound_begin 0 t v e) (λ t v x. complete_from Begin 0 t v x) name)
 
-pub lawful : (name : List ℕ) (r : Result InForm ℕ) → r ≡ read_calendar_name name
+pub lawful : (name : List ℕ) (r : Result InForm Misread) → r ≡ read_calendar_name name
     → record { value : r ≡ read_calendar_name name; grammar : AnswersWithin CalendarName 16 name r }
 lawful name r e = record { value = e; grammar = subst (AnswersWithin CalendarName 16 name) (sym e) (name_answers name) }

@@ -1,6 +1,7 @@
 -- What reading a zone's name answers, by its form.
 use Rattle.std.proofs.Common.{◌≡◌, ℕ, ◌+◌, Bool, true, ◌&&◌, ◌||◌, eqb, leb, ◌⊎◌, List, [], ◌∷◌, Some, None, Ok, Result, sym, refl, ◌∙◌, subst, inl, inr}
 use Rattle.std.proofs.lemmas.Bool.{or_cases, or_left, or_right, eqb-true, eq-eqb}
+use Rattle.reading.specs.declared.Misread.{Misread}
 use Rattle.reading.specs.Reading.{read_on}
 use Rattle.reading.specs.Places.{AnswersWithin}
 use Rattle.reading.proofs.Machines.{none_some, err_ok, cond_some, first_step, go, answers, answers_within}
@@ -97,6 +98,6 @@ name_answers : (name : List ℕ) → AnswersWithin IsZoneName 32 name (read_zone
 name_answers name =
     answers_within IsZoneName 32 name (read_on stepped ended Begin 0 name) (answers stepped ended IsZoneName live Begin sound complete name)
 
-pub lawful : (name : List ℕ) (r : Result InForm ℕ) → r ≡ read_zone_name name
+pub lawful : (name : List ℕ) (r : Result InForm Misread) → r ≡ read_zone_name name
     → record { value : r ≡ read_zone_name name; grammar : AnswersWithin IsZoneName 32 name r }
 lawful name r e = record { value = e; grammar = subst (AnswersWithin IsZoneName 32 name) (sym e) (name_answers name) }

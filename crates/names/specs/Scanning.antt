@@ -1,5 +1,6 @@
 -- The steps by which a name is read.
 use Rattle.std.specs.Prelude.{ℕ, Bool, cond, ◌&&◌, ◌||◌, List, length, Some, None, Option, Result, ◌==◌, nat_le}
+use Rattle.reading.specs.declared.Misread.{Misread}
 use Rattle.reading.specs.Reading.{read_on, limited}
 use Rattle.names.specs.declared.Progress.{Progress}
 use Rattle.names.specs.declared.Progress.TheVariants.{Begin, Run}
@@ -16,5 +17,5 @@ abbrev pub ended : Progress → Option InForm
 ended Begin = None
 ended Run = Some (record {})
 
-abbrev pub read_calendar_name : List ℕ → Result InForm ℕ
+abbrev pub read_calendar_name : List ℕ → Result InForm Misread
 read_calendar_name name = limited 16 (length name) (read_on stepped ended Begin 0 name)

@@ -1,5 +1,6 @@
 -- The steps by which zones' names are read.
 use Rattle.std.specs.Prelude.{ℕ, Bool, cond, ◌&&◌, ◌||◌, List, length, Some, None, Option, Result, ◌==◌, nat_le}
+use Rattle.reading.specs.declared.Misread.{Misread}
 use Rattle.reading.specs.Reading.{read_on, limited}
 use Rattle.names.specs.Scanning.{is_letter_or_digit}
 use Rattle.names.specs.declared.InForm.{InForm}
@@ -23,5 +24,5 @@ abbrev pub zone_ended : ZoneProgress → Option InForm
 zone_ended Begin = None
 zone_ended Inside = Some (record {})
 
-abbrev pub read_zone_name : List ℕ → Result InForm ℕ
+abbrev pub read_zone_name : List ℕ → Result InForm Misread
 read_zone_name name = limited 32 (length name) (read_on zone_stepped zone_ended Begin 0 name)

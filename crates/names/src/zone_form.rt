@@ -2,30 +2,24 @@
 ghost use Rattle.std.specs.Prelude.{◌≡◌};
 ghost use Rattle.reading.specs.Places.{AnswersWithin};
 ghost use Rattle.names.specs.ZoneNames.{IsZoneName};
-ghost use Rattle.names.specs.ZoneScanning.{is_letter, is_first_of_zone_name, is_in_zone_name, zone_stepped, zone_ended, read_zone_name};
+ghost use Rattle.names.specs.ZoneScanning.{is_first_of_zone_name, is_in_zone_name, zone_stepped, zone_ended, read_zone_name};
 
-use crate::{InForm, is_letter_or_digit};
-use reading::{Scan, read, within_limit};
+use crate::InForm;
+use reading::{Misread, Scan, read_within};
 
 // The most bytes of a zone's name.
 pub const ZONE_NAME_LIMIT: usize = 32;
 
-fn is_letter(byte: u8) -> bool
-    ensures { result ≡ is_letter byte }
-{
-    matches!(byte as char, 'a'..='z' | 'A'..='Z')
-}
-
 fn is_first_of_zone_name(byte: u8) -> bool
     ensures { result ≡ is_first_of_zone_name byte }
 {
-    is_letter(byte) || matches!(byte as char, '_' | '.')
+    byte.is_ascii_alphabetic() || matches!(byte as char, '_' | '.')
 }
 
 fn is_in_zone_name(byte: u8) -> bool
     ensures { result ≡ is_in_zone_name byte }
 {
-    is_letter_or_digit(byte) || matches!(byte as char, '.' | '_' | '-' | '+' | '/')
+    byte.is_ascii_alphanumeric() || matches!(byte as char, '.' | '_' | '-' | '+' | '/')
 }
 
 // How far a name has been read.
@@ -60,16 +54,10 @@ impl Scan for ZoneProgress {
     }
 }
 
-// Whether a zone's name is in form, or the place at which it goes wrong.
-pub fn read_zone_name(name: &[u8]) -> Result<InForm, usize>
+// Whether a zone's name is in form, or where it goes wrong.
+pub fn read_zone_name(name: &[u8]) -> Result<InForm, Misread>
     ensures value { result ≡ read_zone_name name.now }
     ensures grammar { AnswersWithin IsZoneName 32 name.now result }
 {
-    scan_zone_name(name)
-}
-
-fn scan_zone_name(name: &[u8]) -> Result<InForm, usize>
-    ensures { result ≡ read_zone_name name.now }
-{
-    within_limit(read(ZoneProgress::Begin, name), name.len(), ZONE_NAME_LIMIT)
+    read_within(ZoneProgress::Begin, name, ZONE_NAME_LIMIT)
 }

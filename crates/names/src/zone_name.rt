@@ -2,7 +2,8 @@
 ghost use Rattle.std.specs.Prelude.{◌≡◌, is_ok};
 ghost use Rattle.names.specs.ZoneScanning.{read_zone_name};
 
-// A name that views its bytes, and whether it is in form, which is judged once.
+// A name that views its bytes, and whether it is in form, which is judged once. An Option of the bytes would lose those of a
+// name out of form, which `bytes` promises.
 #[derive(Clone, Copy)]
 pub struct ZoneName<'n> {
     pub(crate) bytes: &'n [u8],

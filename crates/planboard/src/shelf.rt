@@ -14,24 +14,6 @@ pub struct Shelf<'a, T, const CAP: usize> {
     slots: &'a mut [Option<T>],
 }
 
-// What stands at i; None past the end.
-fn at<T: Copy>(slots: &[Option<T>], i: usize) -> Option<T>
-    ensures { result ≡ slice_index_or slots.now i None }
-{
-    if i < slots.len() { slots[i] } else { None }
-}
-
-// Empties the first cap slots, or all where there are no more.
-fn empty_first<T: Copy>(slots: &mut [Option<T>], cap: usize)
-    ensures state { slots.new ≡ emptied cap slots.old }
-    ensures law { AllEmpty cap slots.old slots.new }
-{
-    let count = slots.len().min(cap);
-    for slot in slots[0..count].iter_mut() {
-        *slot = None;
-    }
-}
-
 impl<'a, T: Copy, const CAP: usize> Shelf<'a, T, CAP> {
     // A shelf over the lent memory, with every slot empty.
     pub fn new(slots: &'a mut [Option<T>]) -> Shelf<'a, T, CAP>
@@ -39,7 +21,8 @@ impl<'a, T: Copy, const CAP: usize> Shelf<'a, T, CAP> {
         ensures law { AllEmpty CAP slots.old (memory result) }
         ensures lent { lender result ≡ slots.entry.ghost_name }
     {
-        empty_first(slots, CAP);
+        let count = slots.len().min(CAP);
+        slots[..count].fill(None);
         Shelf { slots }
     }
 
@@ -56,14 +39,14 @@ impl<'a, T: Copy, const CAP: usize> Shelf<'a, T, CAP> {
         ensures value { result.now ≡ in_use CAP (memory self.now) }
         ensures count { length result.now ≡ slot_count CAP (memory self.now) }
     {
-        &self.slots[0..self.len()]
+        &self.slots[..self.len()]
     }
 
     // What slot i holds; None where it is empty or not there.
     pub fn get(&self, i: usize) -> Option<T>
         ensures { result ≡ slot_at CAP (memory self.now) i }
     {
-        at(self.slots(), i)
+        self.slots().get(i).copied().flatten()
     }
 
     // Puts v into slot i. The answer is whether there is such a slot: where there is none, nothing changes.

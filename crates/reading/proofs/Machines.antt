@@ -1,9 +1,10 @@
 -- A reader by steps, each of whose states can still come to an end, stops where the text stops.
-use Rattle.std.proofs.Common.{◌≡◌, ℕ, ◌+◌, ◌-◌, ◌<◌, Bool, true, false, cond, ltb, ◌⊎◌, List, [], ◌∷◌, ◌++◌, length, get_or, take, drop, Some, None, Ok, Err, Option, Result, sym, refl, ap, ◌∙◌, subst, inl, inr, append_assoc, append-nil, arith, length-append, length-drop, length-take}
+use Rattle.std.proofs.Common.{◌≡◌, ℕ, ◌+◌, ◌<◌, Bool, true, false, cond, ltb, ◌⊎◌, List, [], ◌∷◌, ◌++◌, length, get_or, take, drop, Some, None, Ok, Err, Option, Result, sym, refl, ap, ◌∙◌, subst, inl, inr, append_assoc, append-nil, arith, length-append}
 use Rattle.std.proofs.lemmas.Bool.{ltb-true, ltb-false}
-use Rattle.std.proofs.lemmas.List.{take_at, take_all, take_rest}
+use Rattle.std.proofs.lemmas.List.{take_at, take_all, drop_all, at_drop_more}
 use Rattle.std.specs.Option.{ok_or}
-use Rattle.reading.specs.Reading.{read_on, limited}
+use Rattle.reading.specs.declared.Misread.{Misread}
+use Rattle.reading.specs.Reading.{misread, read_on, limited}
 use Rattle.reading.specs.Places.{Begins, Longest, Answers, AnswersWithin}
 
 -- ── values that differ in their constructor ──
@@ -11,14 +12,14 @@ use Rattle.reading.specs.Places.{Begins, Longest, Answers, AnswersWithin}
 pub none_some : {S A : Type 0} (t : S) → ◌≡◌ {A = Option S} None (Some t) → A
 none_some t h = let z : ◌≡◌ {A = ℕ} 0 1 = cc in absurd (omega arith)
 
-pub err_ok : {V A : Type 0} (v : V) (n : ℕ) → ◌≡◌ {A = Result V ℕ} (Err n) (Ok v) → A
+pub err_ok : {V A : Type 0} (v : V) (n : ℕ) → ◌≡◌ {A = Result V Misread} (Err (misread n)) (Ok v) → A
 err_ok v n h = let z : ◌≡◌ {A = ℕ} 0 1 = cc in absurd (omega arith)
 
-pub ok_err : {V A : Type 0} (v : V) (n : ℕ) → ◌≡◌ {A = Result V ℕ} (Ok v) (Err n) → A
+pub ok_err : {V A : Type 0} (v : V) (n : ℕ) → ◌≡◌ {A = Result V Misread} (Ok v) (Err (misread n)) → A
 ok_err v n h = let z : ◌≡◌ {A = ℕ} 0 1 = cc in absurd (omega arith)
 
-same_place : {V : Type 0} (m n : ℕ) → ◌≡◌ {A = Result V ℕ} (Err m) (Err n) → m ≡ n
-same_place m n h = cc
+same_place : {V : Type 0} (m n : ℕ) → ◌≡◌ {A = Result V Misread} (Err (misread m)) (Err (misread n)) → m ≡ n
+same_place m n h = let e : misread m ≡ misread n = cc in ap (λ (x : Misread). x.at) e
 
 -- what a test that gave something says
 pub cond_some : {S : Type 0} (c : Bool) (x : S) (o : Option S) (t : S) → cond c (Some x) o ≡ Some t → ((c ≡ true) × (x ≡ t)) ⊎ (o ≡ Some t)
@@ -35,35 +36,32 @@ pub ok_or_none : {A E : Type 0} (o : Option A) (e x : E) → Err x ≡ ok_or o e
 ok_or_none (Some y) e x h = let z : ◌≡◌ {A = ℕ} 0 1 = cc in absurd (omega arith)
 ok_or_none None e x h = (refl, cc)
 
--- what is left after `[first, rest @ ..]`
-pub rest_count : (xs : List ℕ) (at n : ℕ) → 0 < length xs → at + length xs ≡ n → (at + 1) + length (take (length xs - 1) (drop 1 xs)) ≡ n
-rest_count xs at n h e = simp (length-take, length-drop) (omega arith)
-
 module _ {S V : Type 0} (step : S → ℕ → ℕ → Option S) (end : S → Option V) where
   -- one step
   pub go : (s t : S) (a b : ℕ) (bs : List ℕ) → step s a b ≡ Some t → read_on step end s a (b ∷ bs) ≡ read_on step end t (a + 1) bs
   go s t a b bs h = rw (h, read_on) refl
 
-  -- a byte that stands: `[first, rest @ ..]` as the checker reads it
-  pub read_more : (s t : S) (at : ℕ) (xs : List ℕ) → 0 < length xs → step s at (get_or xs 0 0) ≡ Some t → read_on step end t (at + 1) (take (length xs - 1) (drop 1 xs)) ≡ read_on step end s at xs
-  read_more s t at [] h e = absurd (omega arith)
-  read_more s t at (b ∷ bs) h e = ap (read_on step end t (at + 1)) (take_rest (b ∷ bs) 1) ∙ rw (e, read_on) refl
+  -- a byte that stands
+  pub read_more : (s t : S) (at : ℕ) (xs : List ℕ) → at < length xs → step s at (get_or xs at 0) ≡ Some t → read_on step end t (at + 1) (drop (at + 1) xs) ≡ read_on step end s at (drop at xs)
+  read_more s t at xs h e = sym (at_drop_more (read_on step end s at) xs at 0 h ∙ go s t at (get_or xs at 0) (drop (at + 1) xs) e)
 
   -- a byte that can't stand
-  pub read_stuck : (s : S) (at : ℕ) (xs : List ℕ) → 0 < length xs → step s at (get_or xs 0 0) ≡ None → read_on step end s at xs ≡ Err at
-  read_stuck s at [] h e = absurd (omega arith)
-  read_stuck s at (b ∷ bs) h e = rw (e, read_on) refl
+  pub read_stuck : (s : S) (at : ℕ) (xs : List ℕ) → at < length xs → step s at (get_or xs at 0) ≡ None → read_on step end s at (drop at xs) ≡ Err (misread at)
+  read_stuck s at xs h e = at_drop_more (read_on step end s at) xs at 0 h ∙ rw (e, read_on) refl
 
   -- the end of the text
-  pub read_end : (s : S) (at : ℕ) (xs : List ℕ) → length xs ≡ 0 → read_on step end s at xs ≡ ok_or (end s) at
-  read_end s at [] h = elim (end s) as (λ o. ◌≡◌ {A = Result V ℕ} (elim o [ Some v ↦ Ok v | None ↦ Err at ]) (ok_or o at)) [ Some v ↦ refl | None ↦ refl ]
-  read_end s at (b ∷ bs) h = absurd (omega arith)
+  pub read_end : (s : S) (at : ℕ) (xs : List ℕ) → at ≡ length xs → read_on step end s at (drop at xs) ≡ ok_or (end s) (misread (length xs))
+  read_end s at xs h = subst (λ n. read_on step end s n (drop n xs) ≡ ok_or (end s) (misread (length xs))) (sym h) (ap (read_on step end s (length xs)) (drop_all (length xs) xs (omega arith)) ∙ ended (end s))
+    where
+      ended : (o : Option V) → ◌≡◌ {A = Result V Misread} (elim o [ Some v ↦ Ok v | None ↦ Err (misread (length xs)) ]) (ok_or o (misread (length xs)))
+      ended (Some v) = refl
+      ended None = refl
 
   -- a reader that reads gets past its first byte
   pub first_step : (s : S) (a b : ℕ) (bs : List ℕ) (v : V) → read_on step end s a (b ∷ bs) ≡ Ok v → (t : S) × (step s a b ≡ Some t) × (read_on step end t (a + 1) bs ≡ Ok v)
   first_step s a b bs v h = by (step s a b) refl h
     where
-      by : (o : Option S) → step s a b ≡ o → ◌≡◌ {A = Result V ℕ} (elim o [ Some t ↦ read_on step end t (a + 1) bs | None ↦ Err a ]) (Ok v) → (t : S) × (step s a b ≡ Some t) × (read_on step end t (a + 1) bs ≡ Ok v)
+      by : (o : Option S) → step s a b ≡ o → ◌≡◌ {A = Result V Misread} (elim o [ Some t ↦ read_on step end t (a + 1) bs | None ↦ Err (misread a) ]) (Ok v) → (t : S) × (step s a b ≡ Some t) × (read_on step end t (a + 1) bs ≡ Ok v)
       by (Some t) e k = (t, e, k)
       by None e k = err_ok v a k
 
@@ -76,12 +74,12 @@ module _ {S V : Type 0} (step : S → ℕ → ℕ → Option S) (end : S → Opt
     pub rest : List ℕ
     pub value : V
     pub reads : read_on step end s a (front ++ rest) ≡ Ok value
-    pub stays : (b : ℕ) (us ws : List ℕ) → back ≡ b ∷ us → read_on step end s a (front ++ (b ∷ ws)) ≡ Err n
+    pub stays : (b : ℕ) (us ws : List ℕ) → back ≡ b ∷ us → read_on step end s a (front ++ (b ∷ ws)) ≡ Err (misread n)
 
   module _ (live : (s : S) (a : ℕ) → (w : List ℕ) × ((v : V) × (read_on step end s a w ≡ Ok v))) where
     halts_byte : (s : S) (a b : ℕ) (bs : List ℕ) (n : ℕ) (o : Option S) → step s a b ≡ o
-        → ((t : S) → read_on step end t (a + 1) bs ≡ Err n → Halts t (a + 1) bs n)
-        → ◌≡◌ {A = Result V ℕ} (elim o [ Some t ↦ read_on step end t (a + 1) bs | None ↦ Err a ]) (Err n) → Halts s a (b ∷ bs) n
+        → ((t : S) → read_on step end t (a + 1) bs ≡ Err (misread n) → Halts t (a + 1) bs n)
+        → ◌≡◌ {A = Result V Misread} (elim o [ Some t ↦ read_on step end t (a + 1) bs | None ↦ Err (misread a) ]) (Err (misread n)) → Halts s a (b ∷ bs) n
     halts_byte s a b bs n (Some t) e next h =
         let r = next t h in
         record {
@@ -104,10 +102,10 @@ module _ {S V : Type 0} (step : S → ℕ → ℕ → Option S) (end : S → Opt
           rest = l.0;
           value = l.1.0;
           reads = l.1.1;
-          stays = λ c us ws q. let same : b ≡ c = cc in subst (λ d. read_on step end s a (d ∷ ws) ≡ Err n) same (rw (e, read_on) h);
+          stays = λ c us ws q. let same : b ≡ c = cc in subst (λ d. read_on step end s a (d ∷ ws) ≡ Err (misread n)) same (rw (e, read_on) h);
         }
 
-    halts_end : (s : S) (a n : ℕ) (o : Option V) → ◌≡◌ {A = Result V ℕ} (elim o [ Some v ↦ Ok v | None ↦ Err a ]) (Err n) → Halts s a [] n
+    halts_end : (s : S) (a n : ℕ) (o : Option V) → ◌≡◌ {A = Result V Misread} (elim o [ Some v ↦ Ok v | None ↦ Err (misread a) ]) (Err (misread n)) → Halts s a [] n
     halts_end s a n (Some v) h = ok_err v n h
     halts_end s a n None h =
         let l = live s a in
@@ -122,7 +120,7 @@ module _ {S V : Type 0} (step : S → ℕ → ℕ → Option S) (end : S → Opt
           stays = λ c us ws q. let z : ◌≡◌ {A = ℕ} 0 1 = cc in absurd (omega arith);
         }
 
-    pub halts : (s : S) (a : ℕ) (xs : List ℕ) (n : ℕ) → read_on step end s a xs ≡ Err n → Halts s a xs n
+    pub halts : (s : S) (a : ℕ) (xs : List ℕ) (n : ℕ) → read_on step end s a xs ≡ Err (misread n) → Halts s a xs n
     halts s a [] n h = halts_end s a n (end s) h
     halts s a (b ∷ bs) n h = halts_byte s a b bs n (step s a b) refl (λ t e. halts t (a + 1) bs n e) h
 
@@ -155,11 +153,11 @@ module _ {S V : Type 0} (step : S → ℕ → ℕ → Option S) (end : S → Opt
         no_further = further t n k;
       }
 
-  at_answer : (t : List ℕ) (r : Result V ℕ) → read_on step end first 0 t ≡ r → Answers Text t r
+  at_answer : (t : List ℕ) (r : Result V Misread) → read_on step end first 0 t ≡ r → Answers Text t r
   at_answer t (Ok v) e = sound t v e
-  at_answer t (Err n) e = record {
-    no_text = λ v x. ok_err v n (sym (complete t v x) ∙ e);
-    longest = longest t n (halts step end live first 0 t n e);
+  at_answer t (Err m) e = record {
+    no_text = λ v x. ok_err v m.at (sym (complete t v x) ∙ e);
+    longest = longest t m.at (halts step end live first 0 t m.at e);
   }
 
   pub answers : (t : List ℕ) → Answers Text t (read_on step end first 0 t)
@@ -175,7 +173,7 @@ module _ {V : Type 0} (Text : List ℕ → V → Type 0) (limit : ℕ) where
     no_further = λ l b. omega arith;
   }
 
-  at_ok : (t : List ℕ) (v : V) → Text t v → (c : Bool) → ltb limit (length t) ≡ c → AnswersWithin Text limit t (cond c (Err limit) (Ok v))
+  at_ok : (t : List ℕ) (v : V) → Text t v → (c : Bool) → ltb limit (length t) ≡ c → AnswersWithin Text limit t (cond c (Err (misread limit)) (Ok v))
   at_ok t v x true h = record {
     no_text = λ w y l. omega (arith, ltb-true limit (length t) h);
     most = length t;
@@ -184,6 +182,6 @@ module _ {V : Type 0} (Text : List ℕ → V → Type 0) (limit : ℕ) where
   }
   at_ok t v x false h = (x, ltb-false limit (length t) h)
 
-  pub answers_within : (t : List ℕ) (r : Result V ℕ) → Answers Text t r → AnswersWithin Text limit t (limited limit (length t) r)
+  pub answers_within : (t : List ℕ) (r : Result V Misread) → Answers Text t r → AnswersWithin Text limit t (limited limit (length t) r)
   answers_within t (Ok v) a = at_ok t v a (ltb limit (length t)) refl
-  answers_within t (Err n) a = record { no_text = λ v x l. a.no_text v x; most = n; longest = a.longest; at = refl }
+  answers_within t (Err m) a = record { no_text = λ v x l. a.no_text v x; most = m.at; longest = a.longest; at = refl }

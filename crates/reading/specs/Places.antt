@@ -1,5 +1,6 @@
 -- Where a text stops reading, by the texts that there are.
 use Rattle.std.specs.Prelude.{◌≡◌, ℕ, ◌+◌, ◌<◌, ◌≤◌, min, List, ◌++◌, length, take, Ok, Err, Result}
+use Rattle.reading.specs.declared.Misread.{Misread}
 
 -- `Text t v`: t is a text, and it says v
 module _ {V : Type 0} (Text : List ℕ → V → Type 0) where
@@ -19,9 +20,9 @@ module _ {V : Type 0} (Text : List ℕ → V → Type 0) where
     pub longest : Longest t place
 
   -- the one answer to each text
-  abbrev pub Answers : List ℕ → Result V ℕ → Type 0
+  abbrev pub Answers : List ℕ → Result V Misread → Type 0
   Answers t (Ok v) = Text t v
-  Answers t (Err place) = Refused t place
+  Answers t (Err m) = Refused t m.at
 
   -- t is no text of at most `limit` bytes, and the place is the length of its longest viable prefix, or the limit where that is less
   pub record RefusedWithin (limit : ℕ) (t : List ℕ) (place : ℕ) : Type 0 where
@@ -30,6 +31,6 @@ module _ {V : Type 0} (Text : List ℕ → V → Type 0) where
     pub longest : Longest t most
     pub at : place ≡ min most limit
 
-  abbrev pub AnswersWithin : ℕ → List ℕ → Result V ℕ → Type 0
+  abbrev pub AnswersWithin : ℕ → List ℕ → Result V Misread → Type 0
   AnswersWithin limit t (Ok v) = Text t v × (length t ≤ limit)
-  AnswersWithin limit t (Err place) = RefusedWithin limit t place
+  AnswersWithin limit t (Err m) = RefusedWithin limit t m.at

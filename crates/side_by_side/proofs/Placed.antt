@@ -1,8 +1,8 @@
 -- Which table has a number.
-use Rattle.std.proofs.Common.{◌≡◌, ℕ, ◌+◌, ◌-◌, ◌<◌, ◌≤◌, Bool, true, false, cond, ltb, leb, ◌⊎◌, refl, inl, inr, arith}
+use Rattle.std.proofs.Common.{◌≡◌, ℕ, ◌+◌, ◌-◌, ◌<◌, ◌≤◌, Bool, true, false, cond, ltb, leb, ◌⊎◌, refl, inl, inr, arith, Some, None, Option}
 use Rattle.std.proofs.lemmas.Bool.{ltb-true, ltb-false, lt-ltb, le-ltb, leb-true}
 use Rattle.side_by_side.specs.declared.Place.{Place}
-use Rattle.side_by_side.specs.declared.Place.TheVariants.{First, Second, Neither}
+use Rattle.side_by_side.specs.declared.Place.TheVariants.{First, Second}
 use Rattle.side_by_side.specs.Places.{joined_count, place_of, at_place}
 
 module _ (a b : ℕ) where
@@ -20,32 +20,32 @@ module _ (a b : ℕ) where
   pub second_there : (k : ℕ) → a ≤ k → k < joined_count a b → k - a < b
   second_there k low high = elim (all_count _ refl) [ inl e ↦ omega (arith, e.0) | inr e ↦ absurd (omega (arith, e)) ]
 
-  abbrev by_tests : Bool → Bool → ℕ → Place
-  by_tests x y k = cond x (First k) (cond y (Second (k - a)) Neither)
+  abbrev by_tests : Bool → Bool → ℕ → Option Place
+  by_tests x y k = cond x (Some (First k)) (cond y (Some (Second (k - a))) None)
 
-  first_tells : (k j : ℕ) (x y : Bool) → ltb k a ≡ x → First j ≡ by_tests x y k → (j ≡ k) × (k < a)
+  first_tells : (k j : ℕ) (x y : Bool) → ltb k a ≡ x → Some (First j) ≡ by_tests x y k → (j ≡ k) × (k < a)
   first_tells k j true y h e = let same : j ≡ k = cc in (same, ltb-true k a h)
   first_tells k j false true h e = let z : ◌≡◌ {A = ℕ} 0 1 = cc in absurd (omega arith)
   first_tells k j false false h e = let z : ◌≡◌ {A = ℕ} 0 1 = cc in absurd (omega arith)
 
-  second_tells : (k j : ℕ) (x y : Bool) → ltb k a ≡ x → ltb k (joined_count a b) ≡ y → Second j ≡ by_tests x y k → (j ≡ k - a) × (a ≤ k) × (k < joined_count a b)
+  second_tells : (k j : ℕ) (x y : Bool) → ltb k a ≡ x → ltb k (joined_count a b) ≡ y → Some (Second j) ≡ by_tests x y k → (j ≡ k - a) × (a ≤ k) × (k < joined_count a b)
   second_tells k j true y h g e = let z : ◌≡◌ {A = ℕ} 0 1 = cc in absurd (omega arith)
   second_tells k j false true h g e = let same : j ≡ k - a = cc in (same, ltb-false k a h, ltb-true k (joined_count a b) g)
   second_tells k j false false h g e = let z : ◌≡◌ {A = ℕ} 0 1 = cc in absurd (omega arith)
 
-  neither_tells : (k : ℕ) (x y : Bool) → ltb k (joined_count a b) ≡ y → Neither ≡ by_tests x y k → joined_count a b ≤ k
-  neither_tells k true y g e = let z : ◌≡◌ {A = ℕ} 0 1 = cc in absurd (omega arith)
-  neither_tells k false true g e = let z : ◌≡◌ {A = ℕ} 0 1 = cc in absurd (omega arith)
-  neither_tells k false false g e = ltb-false k (joined_count a b) g
+  nowhere_tells : (k : ℕ) (x y : Bool) → ltb k (joined_count a b) ≡ y → None ≡ by_tests x y k → joined_count a b ≤ k
+  nowhere_tells k true y g e = let z : ◌≡◌ {A = ℕ} 0 1 = cc in absurd (omega arith)
+  nowhere_tells k false true g e = let z : ◌≡◌ {A = ℕ} 0 1 = cc in absurd (omega arith)
+  nowhere_tells k false false g e = ltb-false k (joined_count a b) g
 
-  pub first_is : (k j : ℕ) → First j ≡ place_of a b k → (j ≡ k) × (k < a)
+  pub first_is : (k j : ℕ) → Some (First j) ≡ place_of a b k → (j ≡ k) × (k < a)
   first_is k j e = first_tells k j _ _ refl e
 
-  pub second_is : (k j : ℕ) → Second j ≡ place_of a b k → (j ≡ k - a) × (a ≤ k) × (k < joined_count a b)
+  pub second_is : (k j : ℕ) → Some (Second j) ≡ place_of a b k → (j ≡ k - a) × (a ≤ k) × (k < joined_count a b)
   second_is k j e = second_tells k j _ _ refl refl e
 
-  pub neither_is : (k : ℕ) → Neither ≡ place_of a b k → joined_count a b ≤ k
-  neither_is k e = neither_tells k _ _ refl e
+  pub nowhere_is : (k : ℕ) → None ≡ place_of a b k → joined_count a b ≤ k
+  nowhere_is k e = nowhere_tells k _ _ refl e
 
 -- what stands at a number of either table
 module _ {X : Type 0} (a : ℕ) (f g : ℕ → X) (k : ℕ) where

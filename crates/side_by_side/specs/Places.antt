@@ -1,15 +1,15 @@
 -- The numbers of two tables side by side.
-use Rattle.std.specs.Prelude.{ℕ, ◌+◌, ◌-◌, cond, nat_le, nat_lt}
+use Rattle.std.specs.Prelude.{ℕ, ◌+◌, ◌-◌, cond, nat_le, nat_lt, Some, None, Option}
 use Rattle.side_by_side.specs.declared.Place.{Place}
-use Rattle.side_by_side.specs.declared.Place.TheVariants.{First, Second, Neither}
+use Rattle.side_by_side.specs.declared.Place.TheVariants.{First, Second}
 
 -- the first's numbers, then the second's; above 64 in all, only the first's
 abbrev pub joined_count : ℕ → ℕ → ℕ
 joined_count a b = cond (nat_le (a + b) 64) (a + b) a
 
--- which entry a number means
-abbrev pub place_of : ℕ → ℕ → ℕ → Place
-place_of a b k = cond (nat_lt k a) (First k) (cond (nat_lt k (joined_count a b)) (Second (k - a)) Neither)
+-- which entry a number means, if any
+abbrev pub place_of : ℕ → ℕ → ℕ → Option Place
+place_of a b k = cond (nat_lt k a) (Some (First k)) (cond (nat_lt k (joined_count a b)) (Some (Second (k - a))) None)
 
 -- what a number means in one table of two, or in the other
 abbrev pub at_place : {X : Type 0} → ℕ → (ℕ → X) → (ℕ → X) → ℕ → X

@@ -7,12 +7,18 @@ ghost use Rattle.side_by_side.specs.Places.{joined_count, place_of};
 // The most entries of a table.
 pub const ENTRIES_MOST: usize = 64;
 
-// Where an entry of two tables side by side stands: its number in the first, or in the second.
+// Two sources side by side, as one source.
+#[derive(Clone, Copy, Drop)]
+pub struct Beside<P, Q> {
+    pub first: P,
+    pub second: Q,
+}
+
+// Which of two tables side by side has an entry, and the entry's number there.
 #[derive(Clone, Copy)]
 pub enum Place {
     First(usize),
     Second(usize),
-    Neither,
 }
 
 // How many entries two tables of so many have side by side: above 64 in all, only the first's.
@@ -26,15 +32,15 @@ pub fn joined_count(first: usize, second: usize) -> usize
     }
 }
 
-// Where entry k of two tables of so many entries stands.
-pub fn place_among(first: usize, second: usize, k: usize) -> Place
+// Where entry k of two tables of so many entries stands; none where neither has it.
+pub fn place_among(first: usize, second: usize, k: usize) -> Option<Place>
     ensures { result ≡ place_of first second k }
 {
     if k < first {
-        Place::First(k)
+        Some(Place::First(k))
     } else if k < joined_count(first, second) {
-        Place::Second(k - first)
+        Some(Place::Second(k - first))
     } else {
-        Place::Neither
+        None
     }
 }

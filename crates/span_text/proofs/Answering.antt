@@ -7,6 +7,7 @@ use Rattle.timebase.specs.declared.fault.Fault.TheVariants.{Unreadable, PastLimi
 use Rattle.timebase.specs.declared.span.Part.TheVariants.{Years, Months, Weeks, Days, Time}
 use Rattle.timebase.specs.declared.span.Span.{Span}
 use Rattle.timebase.specs.Spans.{part_limit, time_limit, NoneBelow, NoneAbove, Enterable}
+use Rattle.reading.specs.declared.Misread.{Misread}
 use Rattle.reading.specs.Places.{Answers}
 use Rattle.reading.proofs.Machines.{answers}
 use Rattle.span_text.specs.declared.scan.Fields.{Fields}
@@ -89,9 +90,9 @@ module _ (t : List ℕ) (f : Fields) (text : SpanText t f) where
   limits_answered : Answered t (limited_span f)
   limits_answered = by_tests _ _ _ _ _ refl refl refl refl refl
 
-fields_answered : (t : List ℕ) (r : Result Fields ℕ) → Answers SpanText t r → Answered t (elim r [ Ok f ↦ limited_span f | Err place ↦ Err (Unreadable place) ])
+fields_answered : (t : List ℕ) (r : Result Fields Misread) → Answers SpanText t r → Answered t (elim r [ Ok f ↦ limited_span f | Err m ↦ Err (Unreadable m.at) ])
 fields_answered t (Ok f) a = limits_answered t f a
-fields_answered t (Err place) a = unreadable a
+fields_answered t (Err m) a = unreadable a
 
 pub answered : (t : List ℕ) → Answered t (read_span t)
 answered t = fields_answered t (read_fields t) (answers stepped ended SpanText live start sound complete t)

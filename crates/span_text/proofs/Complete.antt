@@ -2,6 +2,7 @@
 use Rattle.std.proofs.Common.{◌≡◌, ℕ, suc, ◌+◌, ◌-◌, ◌*◌, ◌^◌, ◌<◌, ◌≤◌, List, [], ◌∷◌, ◌++◌, length, Some, Ok, Result, sym, refl, ap, ◌∙◌, append_assoc, append-nil, arith, length-append, rules}
 use Rattle.std.proofs.lemmas.Bool.Decides.{nat_tests}
 use Rattle.reading.specs.Digits.{value_on, AllDigits, Digits}
+use Rattle.reading.specs.declared.Misread.{Misread}
 use Rattle.reading.specs.Reading.{read_on}
 use Rattle.reading.proofs.Figures.{digit_more}
 use Rattle.reading.proofs.Machines.{go as go_on}
@@ -16,7 +17,7 @@ use Rattle.span_text.specs.Grammar.Closes.{years, months, weeks, days, hours, mi
 use Rattle.span_text.specs.Grammar.Spelt.{plus, minus, part, time, fraction}
 use Rattle.span_text.proofs.Fractions.{number_room, padded_small, padded_more}
 
-abbrev read : Progress → ℕ → List ℕ → Result Fields ℕ
+abbrev read : Progress → ℕ → List ℕ → Result Fields Misread
 read = read_on stepped ended
 
 go : (s t : Progress) (a b : ℕ) (bs : List ℕ) → stepped s a b ≡ Some t → read s a (b ∷ bs) ≡ read t (a + 1) bs

@@ -7,5 +7,6 @@ pub mod Live
 pub mod Numerals
 pub mod Pieces
 pub mod ReadBack
+pub mod Signs
 pub mod Sound
 pub mod Spelling

@@ -1,16 +1,17 @@
 -- Reading the canonical text of a span gives the span.
-use Rattle.std.proofs.Common.{◌≡◌, ℕ, zero, suc, ◌+◌, ◌*◌, ◌/◌, ◌%◌, ◌≤◌, Bool, true, false, eqb, ℤ, pos, negsuc, nat_abs, ◌≤ℤ◌, None, Ok, Err, refl, ap, ◌∙◌, inl, inr, arith}
+use Rattle.std.proofs.Common.{◌≡◌, ℕ, zero, suc, ◌+◌, ◌*◌, ◌/◌, ◌%◌, ◌≤◌, Bool, true, false, eqb, ℤ, pos, negsuc, nat_abs, ◌≤ℤ◌, Ok, Err, sym, refl, ap, ◌∙◌, inl, inr, arith}
 use native.Mathlib.Nat.{div-div-eq-div-mul}
 use Rattle.std.proofs.lemmas.Int.{ints}
-use Rattle.std.proofs.lemmas.Bool.{cases_Bool, and_parts, eqb-true, le-ltb}
+use Rattle.std.proofs.lemmas.Bool.{cases_Bool, and_parts, eqb-true}
 use Rattle.timebase.specs.declared.fault.Fault.TheVariants.{Unreadable}
 use Rattle.timebase.specs.declared.span.Span.{Span}
-use Rattle.timebase.specs.Spans.{part_limit, time_limit, InLimits, NoneBelow, NoneAbove, Enterable, is_minus}
+use Rattle.timebase.specs.Spans.{time_limit, InLimits, NoneBelow, NoneAbove, Enterable, is_minus}
 use Rattle.timebase.proofs.Enterables.{none_below, below}
 use Rattle.span_text.specs.Canonical.{is_nought, span_text}
 use Rattle.span_text.specs.Grammar.{SpanText}
-use Rattle.span_text.specs.Spans.{time_of, signed, span_of, past_limit, limited_span, read_span}
+use Rattle.span_text.specs.Spans.{time_of, signed, span_of, limited_span, read_span, WithinLimits}
 use Rattle.span_text.proofs.Complete.{complete}
+use Rattle.span_text.proofs.Signs.{limited_within}
 use Rattle.span_text.proofs.Spelling.{fields_of, some_spelling, nought_spelling}
 
 -- a sign and a magnitude make the part again
@@ -47,22 +48,17 @@ same_span a b c d e s p q r u v =
 span_again : (b : Bool) (s : Span) → SignedParts b s → span_of (fields_of b s) ≡ s
 span_again b s p = same_span _ _ _ _ _ s p.years p.months p.weeks p.days (ap (signed b) (time_again (nat_abs s.time)) ∙ p.time)
 
-none_past : (b : Bool) (s : Span) → InLimits s → past_limit (fields_of b s) ≡ None
-none_past b s l =
-    let y = le-ltb part_limit (nat_abs s.years) l.years in
-    let m = le-ltb part_limit (nat_abs s.months) l.months in
-    let w = le-ltb part_limit (nat_abs s.weeks) l.weeks in
-    let d = le-ltb part_limit (nat_abs s.days) l.days in
+within_again : (b : Bool) (s : Span) → InLimits s → WithinLimits (fields_of b s)
+within_again b s l =
     let k : time_of (fields_of b s) ≤ time_limit = omega (arith, time_again (nat_abs s.time), l.time) in
-    let t = le-ltb time_limit (time_of (fields_of b s)) k in
-    simp (y, m, w, d, t)
+    record { years = l.years; months = l.months; weeks = l.weeks; days = l.days; time = k }
 
 limited_again : (b : Bool) (s : Span) → InLimits s → SignedParts b s → limited_span (fields_of b s) ≡ Ok s
-limited_again b s l p = rw (none_past b s l, limited_span) (ap Ok (span_again b s p))
+limited_again b s l p = sym (limited_within (fields_of b s) (within_again b s l)) ∙ ap Ok (span_again b s p)
 
 read_again : (b : Bool) (s : Span) → InLimits s → SignedParts b s → SpanText (span_text s) (fields_of b s) → read_span (span_text s) ≡ Ok s
 read_again b s l p t =
-    ap (λ r. elim r [ Ok f ↦ limited_span f | Err place ↦ Err (Unreadable place) ]) (complete (span_text s) (fields_of b s) t) ∙ limited_again b s l p
+    ap (λ r. elim r [ Ok f ↦ limited_span f | Err m ↦ Err (Unreadable m.at) ]) (complete (span_text s) (fields_of b s) t) ∙ limited_again b s l p
 
 plus_parts : (s : Span) → NoneBelow s → SignedParts false s
 plus_parts s n = record {

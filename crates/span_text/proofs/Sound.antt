@@ -2,7 +2,8 @@
 use Rattle.std.proofs.Common.{◌≡◌, ℕ, ◌+◌, ◌-◌, ◌*◌, ◌^◌, ◌<◌, ◌≤◌, Bool, true, false, cond, not, ◌&&◌, ◌||◌, eqb, ltb, leb, ◌⊎◌, List, [], ◌∷◌, ◌++◌, length, Some, None, Ok, Err, Option, Result, sym, refl, ap, ◌∙◌, subst, inl, inr, append_assoc, append-nil, arith}
 use Rattle.std.proofs.lemmas.Bool.{and_parts, or_cases, eqb-true, eqb-false, not-true, ltb-true, leb-true}
 use Rattle.reading.specs.Digits.{is_digit, value_on, Digits}
-use Rattle.reading.specs.Reading.{read_on}
+use Rattle.reading.specs.declared.Misread.{Misread}
+use Rattle.reading.specs.Reading.{misread, read_on}
 use Rattle.reading.proofs.Figures.{value_push, length_push, digits_push, one_digit, digit_tells}
 use Rattle.reading.proofs.Machines.{none_some, err_ok, cond_some, first_step}
 use Rattle.span_text.specs.declared.scan.Designator.{Designator}
@@ -204,7 +205,7 @@ whole f (at_designator {d} {p} {f = g} h) e = by d h e
     by Seconds h e = full Seconds h (λ z. omega arith) (λ z. omega arith) e
 
 at_end : (p : List ℕ) (s : Progress) (a : ℕ) (f : Fields) (o : Option Fields) → ended s ≡ o → Reads p s
-    → ◌≡◌ {A = Result Fields ℕ} (elim o [ Some v ↦ Ok v | None ↦ Err a ]) (Ok f) → SpanText p f
+    → ◌≡◌ {A = Result Fields Misread} (elim o [ Some v ↦ Ok v | None ↦ Err (misread a) ]) (Ok f) → SpanText p f
 at_end p s a f (Some g) e h r = let same : g ≡ f = cc in subst (SpanText p) same (whole g h e)
 at_end p s a f None e h r = err_ok f a r
 

@@ -180,7 +180,7 @@ timed s b d p l h low n =
     let x : (((p ++ (84 ∷ [])) ++ part_text (t / 3600000000) (72 ∷ [])) ++ part_text (t / 60000000 % 60) (77 ∷ [])) ++ seconds_text (t % 60000000) ≡ p ++ clock_text t = simp append_assoc in
     record {
       last = o3.last;
-      spelt = respelt (x ∙ ap (λ (z : List ℕ). p ++ z) (sym (time_some t n))) refl o3.spelt;
+      spelt = respelt {d = o3.last} (x ∙ ap (λ (z : List ℕ). p ++ z) (sym (time_some t n))) refl o3.spelt;
       late = late_rank t (rank_of o1.last) (rank_of o2.last) (rank_of o3.last) n o1.low o2.low o3.low o1.there o2.there o3.there;
     }
 

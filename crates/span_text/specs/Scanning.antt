@@ -2,6 +2,7 @@
 -- 83 `S`, 84 `T`, 87 `W`, 89 `Y`.
 use Rattle.std.specs.Prelude.{ℕ, ◌+◌, ◌-◌, ◌*◌, ◌^◌, Bool, true, false, cond, not, ◌&&◌, ◌||◌, List, Some, None, Option, Result, ◌==◌, nat_le, nat_lt}
 use Rattle.reading.specs.Digits.{is_digit}
+use Rattle.reading.specs.declared.Misread.{Misread}
 use Rattle.reading.specs.Reading.{read_on}
 use Rattle.span_text.specs.declared.scan.Designator.{Designator}
 use Rattle.span_text.specs.declared.scan.Designator.TheVariants.{Period, Years, Months, Weeks, Days, Time, Hours, Minutes, Seconds}
@@ -113,5 +114,5 @@ ended p = elim p.stage [
   | Fraction n micros k ↦ None
 ]
 
-abbrev pub read_fields : List ℕ → Result Fields ℕ
+abbrev pub read_fields : List ℕ → Result Fields Misread
 read_fields t = read_on stepped ended start 0 t

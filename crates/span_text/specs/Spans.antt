@@ -29,6 +29,10 @@ span_of f = record {
   time = signed f.minus (time_of f);
 }
 
+-- a part's size, if it keeps the limit
+abbrev pub within : ℕ → Part → ℕ → Result ℤ Fault
+within limit part size = cond (nat_lt limit size) (Err (PastLimit part)) (Ok (pos size))
+
 -- the first part that is past its limit
 abbrev pub past_limit : Fields → Option Part
 past_limit f =
@@ -43,7 +47,7 @@ limited_span f = elim (past_limit f) [ Some part ↦ Err (PastLimit part) | None
 
 -- what reading a text answers
 abbrev pub read_span : List ℕ → Result Span Fault
-read_span t = elim (read_fields t) [ Ok f ↦ limited_span f | Err place ↦ Err (Unreadable place) ]
+read_span t = elim (read_fields t) [ Ok f ↦ limited_span f | Err m ↦ Err (Unreadable m.at) ]
 
 -- ── the answer by the grammar ──
 

@@ -1,11 +1,11 @@
 // How far a span text has been read, byte by byte.
 ghost use Rattle.std.specs.Prelude.{◌≡◌, ◌*◌, ◌<◌, ◌≤◌, Some, None};
-ghost use Rattle.span_text.specs.Scanning.{rank_of, unit_of, closed, after_designator, in_number, in_point, in_fraction, opened, stepped, ended};
+ghost use Rattle.span_text.specs.Scanning.{unit_of, at, closed, after_designator, in_number, in_point, in_fraction, stepped, ended};
 
 use reading::Scan;
 
 // A designator that has been read, in their order; numbers stand before the ones that close them.
-#[derive(Clone, Copy)]
+#[derive(Clone, Copy, PartialEq, Eq, PartialOrd, Ord)]
 pub enum Designator {
     Period,
     Years,
@@ -18,15 +18,6 @@ pub enum Designator {
     Seconds,
 }
 
-impl Designator {
-    // The place in the order of designators.
-    fn rank(self) -> u8
-        ensures { result ≡ rank_of self }
-    {
-        self as u8
-    }
-}
-
 #[derive(Clone, Copy)]
 pub enum Stage {
     Start,
@@ -34,12 +25,22 @@ pub enum Stage {
     Signed,
     // just after a designator
     After(Designator),
-    // in a number after a designator: its value so far, and how many digits
-    Number(Designator, u32, u8),
-    // after the point: the whole seconds
-    Point(u32),
-    // in a fraction: the whole seconds, the microseconds so far, and how many digits
-    Fraction(u32, u32, u8),
+    // in a number after a designator, after so many of its digits
+    Number {
+        last: Designator,
+        value: u32,
+        digits: u8,
+    },
+    // after the point
+    Point {
+        seconds: u32,
+    },
+    // in a fraction of a second, after so many of its digits
+    Fraction {
+        seconds: u32,
+        micros: u32,
+        digits: u8,
+    },
 }
 
 // What a span text says, number by number.
@@ -82,131 +83,114 @@ pub const START: Progress = Progress {
 
 // The microseconds of a fraction's digit after k others.
 fn micros_of_digit(digit: u8, k: u8) -> u32
-    requires { digit ≤ 9 }
+    requires one { digit ≤ 9 }
+    requires place { k < 6 }
     ensures value { result ≡ digit * unit_of k }
     ensures small { result < 1000000 }
 {
-    let digit = digit as u32;
-    match k {
-        0 => digit * 100_000,
-        1 => digit * 10_000,
-        2 => digit * 1_000,
-        3 => digit * 100,
-        4 => digit * 10,
-        _ => digit,
-    }
+    u32::from(digit) * 10_u32.pow(5 - u32::from(k))
 }
 
-// After the letter that closes the number `n`, which follows the designator `last`.
-fn close(fields: Fields, last: Designator, n: u32, byte: u8) -> Option<Progress>
-    ensures { result ≡ closed fields last n byte }
-{
-    let rank = last.rank();
-    let (next, fields) = match byte as char {
-        'Y' if rank < 1 => (Designator::Years, Fields { years: n, ..fields }),
-        'M' if rank < 2 => (
-            Designator::Months,
-            Fields {
-                months: n,
-                ..fields
-            },
-        ),
-        'W' if rank < 3 => (Designator::Weeks, Fields { weeks: n, ..fields }),
-        'D' if rank < 4 => (Designator::Days, Fields { days: n, ..fields }),
-        'H' if rank == 5 => (Designator::Hours, Fields { hours: n, ..fields }),
-        'M' if rank == 5 || rank == 6 => (
-            Designator::Minutes,
-            Fields {
-                minutes: n,
-                ..fields
-            },
-        ),
-        'S' if rank >= 4 => (
-            Designator::Seconds,
-            Fields {
-                seconds: n,
-                ..fields
-            },
-        ),
-        _ => return None,
-    };
-    Some(Progress {
-        stage: Stage::After(next),
-        fields,
-    })
-}
-
-// After one byte more, just after a designator.
-fn after_designator(fields: Fields, last: Designator, byte: u8) -> Option<Progress>
-    ensures { result ≡ after_designator fields last byte }
-{
-    let rank = last.rank();
-    let stage = match byte as char {
-        '0'..='9' if rank != 4 && rank < 8 => Stage::Number(last, (byte - b'0') as u32, 1),
-        'T' if rank < 5 => Stage::After(Designator::Time),
-        _ => return None,
-    };
-    Some(Progress { stage, fields })
-}
-
-// After one byte more, in a number of k digits after a designator.
-fn in_number(fields: Fields, last: Designator, n: u32, k: u8, byte: u8) -> Option<Progress>
-    ensures { result ≡ in_number fields last n k byte }
-{
-    let stage = match byte as char {
-        '0'..='9' if k < 9 && n < 100_000_000 => {
-            Stage::Number(last, n * 10 + (byte - b'0') as u32, k + 1)
+impl Fields {
+    // What the text said so far, with how far it has been read.
+    fn at(self, stage: Stage) -> Progress
+        ensures { result ≡ at stage self }
+    {
+        Progress {
+            stage,
+            fields: self,
         }
-        '.' if last.rank() >= 4 => Stage::Point(n),
-        _ => return close(fields, last, n, byte),
-    };
-    Some(Progress { stage, fields })
-}
-
-// After one byte more, after the point.
-fn in_point(fields: Fields, n: u32, byte: u8) -> Option<Progress>
-    ensures { result ≡ in_point fields n byte }
-{
-    match byte as char {
-        '0'..='9' => Some(Progress {
-            stage: Stage::Fraction(n, (byte - b'0') as u32 * 100_000, 1),
-            fields,
-        }),
-        _ => None,
     }
-}
 
-// After one byte more, in a fraction of k digits.
-fn in_fraction(fields: Fields, n: u32, micros: u32, k: u8, byte: u8) -> Option<Progress>
-    ensures { result ≡ in_fraction fields n micros k byte }
-{
-    match byte as char {
-        '0'..='9' if k < 6 && micros < 1_000_000 => Some(Progress {
-            stage: Stage::Fraction(n, micros + micros_of_digit(byte - b'0', k), k + 1),
-            fields,
-        }),
-        'S' => Some(Progress {
-            stage: Stage::After(Designator::Seconds),
-            fields: Fields {
-                seconds: n,
-                micros,
-                ..fields
+    // After the letter that closes the number `n`, which follows the designator `last`.
+    fn close(self, last: Designator, n: u32, byte: u8) -> Option<Progress>
+        ensures { result ≡ closed self last n byte }
+    {
+        let (next, fields) = match byte {
+            b'Y' if last < Designator::Years => (Designator::Years, Fields { years: n, ..self }),
+            b'M' if last < Designator::Months => (Designator::Months, Fields { months: n, ..self }),
+            b'W' if last < Designator::Weeks => (Designator::Weeks, Fields { weeks: n, ..self }),
+            b'D' if last < Designator::Days => (Designator::Days, Fields { days: n, ..self }),
+            b'H' if last == Designator::Time => (Designator::Hours, Fields { hours: n, ..self }),
+            b'M' if last == Designator::Time || last == Designator::Hours => (
+                Designator::Minutes,
+                Fields { minutes: n, ..self },
+            ),
+            b'S' if last >= Designator::Days => (
+                Designator::Seconds,
+                Fields { seconds: n, ..self },
+            ),
+            _ => return None,
+        };
+        Some(fields.at(Stage::After(next)))
+    }
+
+    // After one byte more, just after a designator.
+    fn after_designator(self, last: Designator, byte: u8) -> Option<Progress>
+        ensures { result ≡ after_designator self last byte }
+    {
+        let stage = match byte {
+            b'0'..=b'9' if last != Designator::Days && last < Designator::Seconds => Stage::Number {
+                last,
+                value: u32::from(byte - b'0'),
+                digits: 1,
             },
-        }),
-        _ => None,
+            b'T' if last < Designator::Time => Stage::After(Designator::Time),
+            _ => return None,
+        };
+        Some(self.at(stage))
     }
-}
 
-// After the letter that every text has.
-fn open(fields: Fields, byte: u8) -> Option<Progress>
-    ensures { result ≡ opened fields byte }
-{
-    match byte as char {
-        'P' => Some(Progress {
-            stage: Stage::After(Designator::Period),
-            fields,
-        }),
-        _ => None,
+    // After one byte more, in a number after a designator.
+    fn in_number(self, last: Designator, value: u32, digits: u8, byte: u8) -> Option<Progress>
+        ensures { result ≡ in_number self last value digits byte }
+    {
+        let stage = match byte {
+            b'0'..=b'9' if digits < 9 && value < 100_000_000 => Stage::Number {
+                last,
+                value: value * 10 + u32::from(byte - b'0'),
+                digits: digits + 1,
+            },
+            b'.' if last >= Designator::Days => Stage::Point { seconds: value },
+            _ => return self.close(last, value, byte),
+        };
+        Some(self.at(stage))
+    }
+
+    // After one byte more, after the point.
+    fn in_point(self, seconds: u32, byte: u8) -> Option<Progress>
+        ensures { result ≡ in_point self seconds byte }
+    {
+        match byte {
+            b'0'..=b'9' => Some(self.at(Stage::Fraction {
+                seconds,
+                micros: micros_of_digit(byte - b'0', 0),
+                digits: 1,
+            })),
+            _ => None,
+        }
+    }
+
+    // After one byte more, in a fraction.
+    fn in_fraction(self, seconds: u32, micros: u32, digits: u8, byte: u8) -> Option<Progress>
+        ensures { result ≡ in_fraction self seconds micros digits byte }
+    {
+        match byte {
+            b'0'..=b'9' if digits < 6 && micros < 1_000_000 => Some(self.at(Stage::Fraction {
+                seconds,
+                micros: micros + micros_of_digit(byte - b'0', digits),
+                digits: digits + 1,
+            })),
+            b'S' => {
+                let fields = Fields {
+                    seconds,
+                    micros,
+                    ..self
+                };
+                Some(fields.at(Stage::After(Designator::Seconds)))
+            }
+            _ => None,
+        }
     }
 }
 
@@ -220,18 +204,28 @@ impl Scan for Progress {
     fn step(self, _at: usize, byte: u8) -> Option<Progress> {
         let fields = self.fields;
         match self.stage {
-            Stage::Start if byte == b'-' => Some(Progress {
-                stage: Stage::Signed,
-                fields: Fields {
+            Stage::Start if byte == b'-' => {
+                let fields = Fields {
                     minus: true,
                     ..START.fields
-                },
-            }),
-            Stage::Start | Stage::Signed => open(fields, byte),
-            Stage::After(last) => after_designator(fields, last, byte),
-            Stage::Number(last, n, k) => in_number(fields, last, n, k, byte),
-            Stage::Point(n) => in_point(fields, n, byte),
-            Stage::Fraction(n, micros, k) => in_fraction(fields, n, micros, k, byte),
+                };
+                Some(fields.at(Stage::Signed))
+            }
+            Stage::Start | Stage::Signed => {
+                (byte == b'P').then_some(fields.at(Stage::After(Designator::Period)))
+            }
+            Stage::After(last) => fields.after_designator(last, byte),
+            Stage::Number {
+                last,
+                value,
+                digits,
+            } => fields.in_number(last, value, digits, byte),
+            Stage::Point { seconds } => fields.in_point(seconds, byte),
+            Stage::Fraction {
+                seconds,
+                micros,
+                digits,
+            } => fields.in_fraction(seconds, micros, digits, byte),
         }
     }
 

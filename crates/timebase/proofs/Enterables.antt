@@ -1,12 +1,14 @@
 -- A span has no wrong part exactly where a text can enter it.
-use Rattle.std.proofs.Common.{◌≡◌, ℕ, ◌≤◌, Bool, true, false, cond, ltb, ℤ, pos, nat_abs, ◌≤ℤ◌, Some, None, Option, sym, refl, inl, inr, arith, MatchOption}
+use Rattle.std.proofs.Common.{◌≡◌, ℕ, ◌+◌, ◌<◌, ◌≤◌, get_or, drop, ◌∙◌, Bool, true, false, cond, ltb, ℤ, pos, nat_abs, ◌≤ℤ◌, Some, None, Option, sym, refl, inl, inr, arith, MatchOption}
 use lib.Signed.{lt_z}
 use Rattle.std.proofs.lemmas.Int.{ints}
+use Rattle.std.proofs.lemmas.List.{at_drop_more}
+use Rattle.std.specs.List.{find}
 use Rattle.std.proofs.lemmas.Bool.{cases_Bool, or_parts, or_from, le-ltb, ltb-false, both_ways}
 use Rattle.timebase.specs.declared.span.Part.{Part}
 use Rattle.timebase.specs.declared.span.Part.TheVariants.{Years, Months, Weeks, Days, Time}
 use Rattle.timebase.specs.declared.span.Span.{Span}
-use Rattle.timebase.specs.Spans.{part_limit, time_limit, NoneBelow, NoneAbove, Enterable, is_minus, is_wrong, wrong_part}
+use Rattle.timebase.specs.Spans.{part_limit, time_limit, NoneBelow, NoneAbove, Enterable, is_minus, is_wrong, all_parts, limit_of, part_of, wrong_part}
 
 -- a part within its limit, with the sign of the span
 right : (minus : Bool) (limit : ℕ) (part : ℤ) → nat_abs part ≤ limit → (minus ≡ true → part ≤ℤ pos 0) → is_wrong minus limit part ≡ false
@@ -106,3 +108,18 @@ right_enterable s h = entered s (first_of s _ _ _ _ _ refl refl refl refl refl h
 pub wrong_law : (s : Span) (r : Option Part) → r ≡ wrong_part s → record { value : r ≡ wrong_part s; law : MatchOption r (Enterable s) (λ _. Enterable s → ⊥) }
 wrong_law s (Some part) h = record { value = h; law = wrong s part (sym h) }
 wrong_law s None h = record { value = h; law = right_enterable s (sym h) }
+
+-- ── the parts one after another ──
+
+abbrev pub is_wrong_part : Span → Part → Bool
+is_wrong_part s p = is_wrong (is_minus s) (limit_of p) (part_of s p)
+
+module _ (s : Span) (i : ℕ) (more : i < 5) where
+  abbrev pub part : Part
+  part = get_or all_parts i Years
+
+  pub wrong_here : is_wrong_part s part ≡ true → find (is_wrong_part s) (drop i all_parts) ≡ Some part
+  wrong_here e = at_drop_more (find (is_wrong_part s)) all_parts i Years more ∙ rw e refl
+
+  pub right_here : is_wrong_part s part ≡ false → find (is_wrong_part s) (drop i all_parts) ≡ find (is_wrong_part s) (drop (i + 1) all_parts)
+  right_here e = at_drop_more (find (is_wrong_part s)) all_parts i Years more ∙ rw e refl

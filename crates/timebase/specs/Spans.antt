@@ -1,5 +1,6 @@
 -- The limits of a span, and which spans a text can enter.
-use Rattle.std.specs.Prelude.{ℕ, ◌≤◌, Bool, cond, ◌&&◌, ◌||◌, ◌⊎◌, ℤ, pos, ◌≤ℤ◌, Some, None, Option, int_lt, nat_lt, unsigned_abs}
+use Rattle.std.specs.Prelude.{ℕ, ◌≤◌, Bool, ◌&&◌, ◌||◌, ◌⊎◌, ℤ, pos, ◌≤ℤ◌, List, [], ◌∷◌, Option, int_lt, nat_lt, unsigned_abs}
+use Rattle.std.specs.List.{find}
 use Rattle.timebase.specs.declared.span.Part.{Part}
 use Rattle.timebase.specs.declared.span.Part.TheVariants.{Years, Months, Weeks, Days, Time}
 use Rattle.timebase.specs.declared.span.Span.{Span}
@@ -48,11 +49,23 @@ is_minus s = int_lt s.years (pos 0) || (int_lt s.months (pos 0) || (int_lt s.wee
 abbrev pub is_wrong : Bool → ℕ → ℤ → Bool
 is_wrong minus limit part = nat_lt limit (unsigned_abs part) || (minus && int_lt (pos 0) part)
 
+abbrev pub all_parts : List Part
+all_parts = Years ∷ (Months ∷ (Weeks ∷ (Days ∷ (Time ∷ []))))
+
+abbrev pub limit_of : Part → ℕ
+limit_of Years = part_limit
+limit_of Months = part_limit
+limit_of Weeks = part_limit
+limit_of Days = part_limit
+limit_of Time = time_limit
+
+abbrev pub part_of : Span → Part → ℤ
+part_of s Years = s.years
+part_of s Months = s.months
+part_of s Weeks = s.weeks
+part_of s Days = s.days
+part_of s Time = s.time
+
 -- the first part that keeps a span from being entered
 abbrev pub wrong_part : Span → Option Part
-wrong_part s =
-    cond (is_wrong (is_minus s) part_limit s.years) (Some Years)
-    (cond (is_wrong (is_minus s) part_limit s.months) (Some Months)
-    (cond (is_wrong (is_minus s) part_limit s.weeks) (Some Weeks)
-    (cond (is_wrong (is_minus s) part_limit s.days) (Some Days)
-    (cond (is_wrong (is_minus s) time_limit s.time) (Some Time) None))))
+wrong_part s = find (λ p. is_wrong (is_minus s) (limit_of p) (part_of s p)) all_parts

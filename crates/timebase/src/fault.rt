@@ -7,7 +7,7 @@ use crate::span::Part;
 
 // A refusal, in the order in which a call makes its checks. Slots of a call and parts of a span count from 0, and so do
 // the bytes of a text.
-#[derive(Clone, Copy)]
+#[derive(Clone, Copy, Debug, PartialEq, Eq)]
 pub enum Fault {
     // a slot of the call is off the shelf
     SlotOff { slot: u8 },
@@ -38,7 +38,7 @@ pub enum Fault {
 }
 
 // What a refusal tells: its number, and its place, cause and depth, which are 0 where it has none.
-#[derive(Clone, Copy)]
+#[derive(Clone, Copy, Debug, PartialEq, Eq)]
 pub struct Told {
     pub number: u8,
     pub place: usize,
@@ -65,8 +65,8 @@ impl Fault {
         ensures alone { (other : AnyFault) → told_by other ≡ result → other ≡ self }
     {
         match self {
-            Fault::SlotOff { slot } => at_place(1, slot as usize),
-            Fault::SlotEmpty { slot } => at_place(2, slot as usize),
+            Fault::SlotOff { slot } => at_place(1, usize::from(slot)),
+            Fault::SlotEmpty { slot } => at_place(2, usize::from(slot)),
             Fault::Unreadable { at } => at_place(3, at),
             Fault::NoSuchField { at } => at_place(4, at),
             Fault::CriticalTag { at } => at_place(5, at),

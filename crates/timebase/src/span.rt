@@ -1,9 +1,9 @@
 // Spans: what lies between two marks, in calendar parts and a time.
 ghost use Rattle.std.specs.Prelude.{◌≡◌, MatchOption};
-ghost use Rattle.timebase.specs.Spans.{Enterable, is_minus, is_wrong, part_limit, time_limit, wrong_part};
+ghost use Rattle.timebase.specs.Spans.{Enterable, is_minus, is_wrong, limit_of, part_of, wrong_part};
 
 // A part of a span, in their order.
-#[derive(Clone, Copy)]
+#[derive(Clone, Copy, Debug, PartialEq, Eq)]
 pub enum Part {
     Years,
     Months,
@@ -20,7 +20,7 @@ pub const TIME_LIMIT: u64 = 400_000_000_000_000_000;
 
 // What lies between two marks: calendar parts, which are counted in a mark's own calendar, and a time in microseconds.
 // A span that a text can enter has parts of one sign, within their limits; one that a host wrote into its memory may not.
-#[derive(Clone, Copy)]
+#[derive(Clone, Copy, Debug, PartialEq, Eq)]
 pub struct Span {
     pub years: i32,
     pub months: i32,
@@ -29,19 +29,48 @@ pub struct Span {
     pub time: i64,
 }
 
-fn is_wrong_count(minus: bool, count: i32) -> bool
-    ensures { result ≡ is_wrong minus part_limit count }
+// Whether a part is past its limit, or above nought where another is below.
+fn is_wrong(minus: bool, limit: u64, part: i64) -> bool
+    ensures { result ≡ is_wrong minus limit part }
 {
-    count.unsigned_abs() > PART_LIMIT || (minus && count > 0)
+    part.unsigned_abs() > limit || (minus && part > 0)
 }
 
-fn is_wrong_time(minus: bool, time: i64) -> bool
-    ensures { result ≡ is_wrong minus time_limit time }
-{
-    time.unsigned_abs() > TIME_LIMIT || (minus && time > 0)
+impl Part {
+    // The parts, in their order.
+    const ALL: [Part; 5] = [
+        Part::Years,
+        Part::Months,
+        Part::Weeks,
+        Part::Days,
+        Part::Time,
+    ];
+
+    // The most of this part in a span, either way.
+    pub fn limit(self) -> u64
+        ensures { result ≡ limit_of self }
+    {
+        match self {
+            Part::Time => TIME_LIMIT,
+            _ => u64::from(PART_LIMIT),
+        }
+    }
 }
 
 impl Span {
+    // One part.
+    pub fn part(&self, part: Part) -> i64
+        ensures { result ≡ part_of self.now part }
+    {
+        match part {
+            Part::Years => i64::from(self.years),
+            Part::Months => i64::from(self.months),
+            Part::Weeks => i64::from(self.weeks),
+            Part::Days => i64::from(self.days),
+            Part::Time => self.time,
+        }
+    }
+
     // Whether some part is below nought.
     pub fn is_minus(&self) -> bool
         ensures { result ≡ is_minus self.now }
@@ -55,28 +84,11 @@ impl Span {
         ensures value { result ≡ wrong_part self.now }
         ensures law { MatchOption result (Enterable self.now) (λ _. Enterable self.now → ⊥) }
     {
-        self.first_wrong()
-    }
-
-    // The tests of `wrong_part`, one after another.
-    fn first_wrong(&self) -> Option<Part>
-        ensures { result ≡ wrong_part self.now }
-    {
         let minus = self.is_minus();
-        if is_wrong_count(minus, self.years) {
-            return Some(Part::Years);
-        }
-        if is_wrong_count(minus, self.months) {
-            return Some(Part::Months);
-        }
-        if is_wrong_count(minus, self.weeks) {
-            return Some(Part::Weeks);
-        }
-        if is_wrong_count(minus, self.days) {
-            return Some(Part::Days);
-        }
-        if is_wrong_time(minus, self.time) {
-            return Some(Part::Time);
+        for part in Part::ALL {
+            if is_wrong(minus, part.limit(), self.part(part)) {
+                return Some(part);
+            }
         }
         None
     }

@@ -1,5 +1,5 @@
 // Signed division with its remainder, as a pair: rounding downward for clock times and day counts, toward zero for weeks.
-ghost use Rattle.std.specs.Prelude.{◌≡◌, pos, ◌<ℤ◌, int_div, int_rem};
+ghost use Rattle.std.specs.Prelude.{◌≡◌, pos, int_div, int_rem};
 ghost use Rattle.timebase.specs.Splits.{floor_quotient, floor_rest, Floor, TowardZero};
 ghost use Rattle.timebase.specs.Divisors.{divisor_value};
 
@@ -11,7 +11,7 @@ pub fn floor_split(n: i64, by: Divisor) -> (i64, u32)
     ensures rest { result.1 ≡ floor_rest n (divisor_value by) }
     ensures law { Floor n (divisor_value by) result.0 result.1 }
 {
-    let by = by.get() as i64;
+    let by = i64::from(by.get());
     (n.div_euclid(by), n.rem_euclid(by) as u32)
 }
 
@@ -21,14 +21,6 @@ pub fn split_toward_zero(n: i64, by: Divisor) -> (i64, i64)
     ensures rest { result.1 ≡ int_rem n (pos (divisor_value by)) }
     ensures law { TowardZero n (divisor_value by) result.0 result.1 }
 {
-    truncate(n, by.get() as i64)
-}
-
-// The machine's own division.
-fn truncate(n: i64, by: i64) -> (i64, i64)
-    requires { pos 0 <ℤ by }
-    ensures quotient { result.0 ≡ int_div n by }
-    ensures rest { result.1 ≡ int_rem n by }
-{
+    let by = i64::from(by.get());
     (n / by, n % by)
 }

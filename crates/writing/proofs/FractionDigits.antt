@@ -1,9 +1,11 @@
 -- The digits of a fraction, one after another.
-use Rattle.std.proofs.Common.{◌≡◌, ℕ, zero, suc, ◌+◌, ◌*◌, ◌/◌, ◌%◌, ◌^◌, ◌<◌, ◌≤◌, true, false, eqb, List, [], ◌∷◌, ◌++◌, length, take, set, replicate, sym, refl, ap, ◌∙◌, append_assoc, append-nil, mod-lt, div-lt_iff_lt-mul, arith, length-set}
+use Rattle.std.proofs.Common.{◌≡◌, ℕ, zero, suc, ◌+◌, ◌*◌, ◌/◌, ◌%◌, ◌^◌, ◌<◌, ◌≤◌, true, false, eqb, List, [], ◌∷◌, ◌++◌, length, sym, refl, ◌∙◌, append_assoc, append-nil, mod-lt, div-lt_iff_lt-mul, arith}
 use native.Mathlib.Nat.{pow-le-pow_right, pow-succ'}
-use Rattle.std.proofs.lemmas.List.{take_more_set}
 use Rattle.std.proofs.lemmas.Bool.{ne_eqb, eq-eqb, cond_both}
 use Rattle.writing.specs.Fractions.{fraction_digits, point_text}
+use Rattle.writing.specs.declared.Writer.{Writer}
+use Rattle.writing.specs.Putting.{Puts}
+use Rattle.writing.proofs.Puttings.{puts_more}
 
 pub point_none : (micros : ℕ) → micros % 1000000 ≡ 0 → point_text micros ≡ []
 unfolding point_text
@@ -43,43 +45,40 @@ tenth (suc k) unit rest e s h =
     let l : rest < 10 * (unit / 10) = omega arith in
     record { fewer = k; places_is = refl; tenth_is = t; some = some; digit = (div-lt_iff_lt-mul some).1 l }
 
--- a fraction is written in part: `rest` of it is left, for as many places as `unit` has zeros
-pub record Going (fraction : ℕ) (text : List ℕ) (count unit rest : ℕ) : Type 0 where
+-- a fraction is put in part: `rest` of it is left, for as many places as `unit` has zeros
+pub record Going (before : Writer) (micros : ℕ) (now : Writer) (unit rest : ℕ) : Type 0 where
   pub places : ℕ
-  pub length_is : length text ≡ 7
-  pub room : count + places ≡ 7
+  pub text : List ℕ
+  pub put : Puts before text now
   pub unit_is : unit ≡ 10 ^ places
   pub small : rest < unit
   pub next : 0 < rest → Tenth places unit rest
-  pub whole : take count text ++ fraction_digits places rest ≡ 46 ∷ fraction_digits 6 fraction
+  pub whole : text ++ fraction_digits places rest ≡ point_text micros
 
-pub going_first : (fraction : ℕ) → fraction < 1000000 → Going fraction (replicate 7 46) 1 1000000 fraction
-going_first fraction h = record { places = 6; length_is = refl; room = refl; unit_is = refl; small = h; next = tenth 6 _ _ refl h; whole = refl }
+pub going_first : {before after : Writer} (micros : ℕ) → (micros % 1000000 ≡ 0 → ⊥) → Puts before (46 ∷ []) after
+    → Going before micros after 1000000 (micros % 1000000)
+going_first micros some put =
+    let small : micros % 1000000 < 1000000 = mod-lt micros (omega arith) in
+    record { places = 6; text = _; put = put; unit_is = refl; small = small; next = tenth 6 _ _ refl small; whole = sym (point_some micros some) }
 
-pub going_on : {fraction : ℕ} {text : List ℕ} {count unit rest : ℕ} → Going fraction text count unit rest → 0 < rest
-    → Going fraction (set text count (48 + rest / (unit / 10))) (count + 1) (unit / 10) (rest % (unit / 10))
-going_on {text} {count} {unit} {rest} g h =
+pub going_on : {before mid after : Writer} {micros unit rest : ℕ} → Going before micros mid unit rest → 0 < rest
+    → Puts mid ((48 + rest / (unit / 10)) ∷ []) after → Going before micros after (unit / 10) (rest % (unit / 10))
+going_on {unit} {rest} g h put =
     let n = g.next h in
-    let d : ℕ = 48 + rest / (unit / 10) in
     let some : rest ≡ 0 → ⊥ = λ z. omega arith in
     let small : rest % (unit / 10) < unit / 10 = mod-lt rest n.some in
     record {
       places = n.fewer;
-      length_is = rw length-set g.length_is;
-      room = omega (arith, g.room, n.places_is);
+      text = g.text ++ ((48 + rest / (unit / 10)) ∷ []);
+      put = puts_more g.put put;
       unit_is = n.tenth_is;
       small = small;
       next = tenth _ _ _ n.tenth_is small;
-      whole =
-          ap (λ (z : List ℕ). z ++ fraction_digits n.fewer (rest % (unit / 10))) (take_more_set text count d (omega (arith, g.room, g.length_is, n.places_is)))
-          ∙ (append_assoc (take count text) (d ∷ []) _ ∙ rw (n.tenth_is, ← fraction_some n.fewer rest some, ← n.places_is) g.whole);
+      whole = append_assoc g.text _ _ ∙ rw (n.tenth_is, ← fraction_some n.fewer rest some, ← n.places_is) g.whole;
     }
 
-pub going_end : (micros : ℕ) {text : List ℕ} {count unit rest : ℕ} → Going (micros % 1000000) text count unit rest → (micros % 1000000 ≡ 0 → ⊥) → rest ≤ 0
-    → take count text ≡ point_text micros
-going_end micros {text} {count} {rest} g some h =
-    let z : rest ≡ 0 = omega arith in
-    sym (append-nil (take count text)) ∙ (rw (z, fraction_none) at g.whole ∙ sym (point_some micros some))
+pub going_end : {before after : Writer} {micros unit rest : ℕ} → Going before micros after unit rest → rest ≡ 0 → Puts before (point_text micros) after
+going_end g z = rw (← g.whole, z, fraction_none, append-nil) g.put
 
 -- ── its length ──
 

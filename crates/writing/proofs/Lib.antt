@@ -1,4 +1,4 @@
 pub mod Copies
 pub mod FractionDigits
-pub mod Numbers
 pub mod Placings
+pub mod Puttings

@@ -3,7 +3,7 @@ use Rattle.std.proofs.Common.{◌≡◌, ℕ, zero, suc, ◌+◌, ◌-◌, ◌�
 use native.Mathlib.Nat.{zero-sub, sub-zero, suc-sub-suc}
 use Rattle.std.proofs.lemmas.List.{take_all, take_at, drop_all, drop_at, drop-drop, take-append-drop}
 use Rattle.std.proofs.lemmas.Bool.{cases_lt}
-use Rattle.writing.specs.Placing.{fitting, GoesOn, Placed}
+use Rattle.writing.specs.Placing.{fitting, Placed}
 
 -- ── what fits ──
 
@@ -78,11 +78,6 @@ placed_more {a} {b} {c} {s} {t} {i} {j} {k} p q =
       end = rw fits (omega (arith, p.end, q.end, n));
       is = q.is ∙ rw ((placed_cut p).0, rest, fits) (simp append_assoc);
     }
-
--- both clauses of a function whose callers put more after it
-pub placed_onward : {before piece after : List ℕ} {at r : ℕ} → Placed before at piece after r
-    → record { text : Placed before at piece after r; onward : GoesOn before at piece after r }
-placed_onward p = record { text = p; onward = λ first start front q. placed_more q p }
 
 -- a text for which there is room
 pub placed_whole : {a b s : List ℕ} {i j : ℕ} → Placed a i s b j → i + length s ≤ length a

@@ -1,11 +1,12 @@
 -- A question has one answer over a table, so that sources are told apart by their meaning alone.
-use Rattle.std.proofs.Common.{◌≡◌, ℕ, Bool, List, ℤ, Some, None, Decides, Option, sym, refl, ap, ◌∙◌, subst, inl, inr, arith, Bor}
+use Rattle.std.proofs.Common.{◌≡◌, ℕ, Bool, List, ℤ, Some, None, Decides, MatchOption, Option, ◌<◌, ◌≤◌, sym, refl, ap, ◌∙◌, subst, inl, inr, arith, Bor}
 use Rattle.std.proofs.lemmas.Int.{ints, by_lt_z}
 use Rattle.std.proofs.lemmas.Bool.{cases_order}
+use Rattle.std.specs.Option.{option_eq}
 use Rattle.zone.specs.declared.question.Question.{Question}
 use Rattle.zone.specs.declared.question.Question.TheVariants.{Count, Name, Find, Value, Change}
 use Rattle.zone.specs.declared.value.Value.{Value as AnyValue}
-use Rattle.zone.specs.Zones.{Zones, FirstAt, NameIs, FoundIs, ValueIs, ChangeIs}
+use Rattle.zone.specs.Zones.{Zones, FirstAt, Bears, NameIs, FoundIs, ValueIs, ChangeIs}
 use Rattle.zone.specs.Questions.{seen, BytesAre, Alike}
 
 -- ── one answer ──
@@ -69,8 +70,25 @@ module _ (y z : Zones) where
 some_inj : (m n : List ℕ) → Some m ≡ Some n → m ≡ n
 some_inj m n e = cc
 
-pub seen_decided : (r q : Option (Bor (List ℕ))) (x w : Bor (List ℕ)) (t : Bool) → r ≡ Some x → q ≡ Some w → Decides t (x.now ≡ w.now) → Decides t (seen r ≡ seen q)
-seen_decided r q x w t e f d = rw (e, f) (λ h. ap Some (d.0 h), λ k. d.1 (some_inj x.now w.now k))
+none_some : (n : List ℕ) → ◌≡◌ {A = Option (List ℕ)} None (Some n) → ⊥
+none_some n e = let z : ◌≡◌ {A = ℕ} 0 1 = cc in omega arith
+
+some_none : (n : List ℕ) → ◌≡◌ {A = Option (List ℕ)} (Some n) None → ⊥
+some_none n e = let z : ◌≡◌ {A = ℕ} 0 1 = cc in omega arith
+
+-- what `==` says of two Options
+pub option_decided : {X : Type 0} (same : X → X → Bool) → ((x w : X) → Decides (same x w) (x ≡ w)) → (r q : Option X) → Decides (option_eq same r q) (r ≡ q)
+option_decided same d None None = (λ _. refl, λ _. refl)
+option_decided same d None (Some w) = (λ h. absurd (let z : ◌≡◌ {A = ℕ} 0 1 = cc in omega arith), λ e. absurd (let z : ◌≡◌ {A = ℕ} 0 1 = cc in omega arith))
+option_decided same d (Some x) None = (λ h. absurd (let z : ◌≡◌ {A = ℕ} 0 1 = cc in omega arith), λ e. absurd (let z : ◌≡◌ {A = ℕ} 0 1 = cc in omega arith))
+option_decided same d (Some x) (Some w) = (λ h. ap Some ((d x w).0 h), λ k. (d x w).1 (cc))
+
+-- what `==` says of two names
+pub seen_decided : (same : Bor (List ℕ) → Bor (List ℕ) → Bool) → ((x w : Bor (List ℕ)) → Decides (same x w) (x.now ≡ w.now)) → (r q : Option (Bor (List ℕ))) → Decides (option_eq same r q) (seen r ≡ seen q)
+seen_decided same d None None = (λ _. refl, λ _. refl)
+seen_decided same d None (Some w) = (λ h. absurd (let z : ◌≡◌ {A = ℕ} 0 1 = cc in omega arith), λ e. absurd (none_some w.now e))
+seen_decided same d (Some x) None = (λ h. absurd (let z : ◌≡◌ {A = ℕ} 0 1 = cc in omega arith), λ e. absurd (some_none x.now e))
+seen_decided same d (Some x) (Some w) = (λ h. ap Some ((d x w).0 h), λ k. (d x w).1 (some_inj x.now w.now k))
 
 self_alike : (y : Zones) (q : Question) → Alike y y q
 self_alike y Count = refl
@@ -82,3 +100,10 @@ self_alike y (Change i a b) = λ r h. h
 -- tables of the same meaning answer every question alike
 pub same_alike : (y z : Zones) (q : Question) → y ≡ z → Alike y z q
 same_alike y z q e = subst (λ (x : Zones). Alike y x q) e (self_alike y q)
+
+-- the first number in a range that bears a name is the lowest there is
+pub found_is : (z : Zones) (n : List ℕ) (count : ℕ) (r : Option ℕ) → count ≡ z.count
+    → MatchOption r ((k : ℕ) → 0 ≤ k → k < count → Bears z k n → ⊥) (λ i. (0 ≤ i) × (i < count) × Bears z i n × ((k : ℕ) → 0 ≤ k → k < i → Bears z k n → ⊥))
+    → FoundIs z n r
+found_is z n count None e h = λ k l same. h k (omega arith) (omega (arith, e)) (l, same)
+found_is z n count (Some i) e h = (h.2.0, h.2.1, λ j l same. h.3 j (omega arith) l (omega (arith, h.2.0), same))

@@ -2,9 +2,10 @@
 use Rattle.std.proofs.Common.{◌≡◌, ℕ, ◌-◌, ◌<◌, ◌≤◌, List, ℤ, is_ok, Some, None, Option, sym, refl, ap, ◌∙◌, subst, inl, inr, arith, Bor}
 use Rattle.std.proofs.lemmas.Bool.{cases_lt}
 use Rattle.names.specs.ZoneScanning.{read_zone_name}
-use Rattle.side_by_side.specs.declared.Place.TheVariants.{First, Second, Neither}
+use Rattle.side_by_side.specs.declared.Place.{Place}
+use Rattle.side_by_side.specs.declared.Place.TheVariants.{First, Second}
 use Rattle.side_by_side.specs.Places.{joined_count, place_of}
-use Rattle.side_by_side.proofs.Placed.{low_count, few, second_there, first_is, second_is, neither_is, in_first, in_second}
+use Rattle.side_by_side.proofs.Placed.{low_count, few, second_there, first_is, second_is, nowhere_is, in_first, in_second}
 use Rattle.zone.specs.declared.value.Value.{Value}
 use Rattle.zone.specs.declared.value.Value.TheVariants.{Offset, Blank}
 use Rattle.zone.specs.Zones.{Zone, Zones, ZonesLaws, ZoneLaws, SoundValue, Steady, FirstAt, NameIs, ValueIs, ChangeIs}
@@ -87,16 +88,17 @@ module _ (a b : Zones) where
     pub name : (joined a b).name k ≡ b.name j
     pub zone : (joined a b).value k ≡ (deepened b).value j
 
-  pub found_first : (k j : ℕ) → First j ≡ place_of a.count b.count k → InFirst k j
-  found_first k j e =
-      let p = first_is a.count b.count k j e in
+  -- a place that was found is that of the number, seen as the code finds it
+  pub found_first : (k j : ℕ) (p : Place) (r : Option Place) → r ≡ place_of a.count b.count k → r ≡ Some p → p ≡ First j → InFirst k j
+  found_first k j p r e o f =
+      let at = first_is a.count b.count k j (cc) in
       let l = low_count a.count b.count in
-      subst (InFirst k) (sym p.0) (record { there = p.1; here = omega (arith, counted, p.1); name = first_name k p.1; zone = first_zone k p.1 })
+      subst (InFirst k) (sym at.0) (record { there = at.1; here = omega (arith, counted, at.1); name = first_name k at.1; zone = first_zone k at.1 })
 
-  pub found_second : (k j : ℕ) → Second j ≡ place_of a.count b.count k → InSecond k j
-  found_second k j e =
-      let p = second_is a.count b.count k j e in
-      subst (InSecond k) (sym p.0) (record { there = second_there a.count b.count k p.1 p.2; here = omega (arith, counted, p.2); name = second_name k p.1; zone = second_zone k p.1 })
+  pub found_second : (k j : ℕ) (p : Place) (r : Option Place) → r ≡ place_of a.count b.count k → r ≡ Some p → p ≡ Second j → InSecond k j
+  found_second k j p r e o f =
+      let at = second_is a.count b.count k j (cc) in
+      subst (InSecond k) (sym at.0) (record { there = second_there a.count b.count k at.1 at.2; here = omega (arith, counted, at.2); name = second_name k at.1; zone = second_zone k at.1 })
 
-  pub found_nowhere : (k : ℕ) → Neither ≡ place_of a.count b.count k → (joined a b).count ≤ k
-  found_nowhere k e = omega (arith, counted, neither_is a.count b.count k e)
+  pub found_nowhere : (k : ℕ) (r : Option Place) → r ≡ place_of a.count b.count k → r ≡ None → (joined a b).count ≤ k
+  found_nowhere k r e o = let out = nowhere_is a.count b.count k (cc) in omega (arith, counted, out)

@@ -71,6 +71,10 @@ FirstChange f a b r = options.MatchOption r (Steady f a b) (λ s. FirstAt f a b 
 abbrev pub NameIs : Zones → ℕ → Option (Bor (List ℕ)) → Type 0
 NameIs z i r = options.MatchOption r (z.count ≤ i) (λ x. (i < z.count) × (x.now ≡ z.name i))
 
+-- a number is there, and bears a name
+abbrev pub Bears : Zones → ℕ → List ℕ → Type 0
+Bears z i n = (i < z.count) × (z.name i ≡ n)
+
 -- the lowest number that bears a name
 abbrev pub FoundIs : Zones → List ℕ → Option ℕ → Type 0
 FoundIs z n r =

@@ -7,21 +7,14 @@ ghost use Rattle.zone.specs.Zones.{ZonesLaws};
 use crate::depth::{deep_change, deep_value};
 use crate::source::ZoneSource;
 use crate::value::Value;
+pub use side_by_side::Beside;
 use side_by_side::{Place, joined_count, place_among};
 
-// Two sources side by side: the first's numbers, then the second's. Above 64 zones in all only the first's are there.
-// A blank of either is one deeper here.
-#[derive(Drop)]
-pub struct Beside<P, Q> {
-    pub first: P,
-    pub second: Q,
-}
-
 // The source that has a zone of two side by side, and its number there.
-fn place_in<P: ZoneSource, Q: ZoneSource>(first: &P, second: &Q, zone: usize) -> Place
-    ensures { result ≡ place_of (P.ZoneSource.zones first.now).count (Q.ZoneSource.zones second.now).count zone }
+fn place_in<P: ZoneSource, Q: ZoneSource>(pair: &Beside<P, Q>, zone: usize) -> Option<Place>
+    ensures { result ≡ place_of (P.ZoneSource.zones pair.now.first).count (Q.ZoneSource.zones pair.now.second).count zone }
 {
-    place_among(first.count(), second.count(), zone)
+    place_among(pair.first.count(), pair.second.count(), zone)
 }
 
 // How many zones there are of two sources side by side, and the laws of both.
@@ -33,6 +26,8 @@ fn count_both<P: ZoneSource, Q: ZoneSource>(first: &P, second: &Q) -> usize
     joined_count(first.count(), second.count())
 }
 
+// The first's numbers, then the second's. Above 64 zones in all only the first's are there. A blank of either is one deeper
+// here.
 impl<P: ZoneSource, Q: ZoneSource> ZoneSource for Beside<P, Q> {
     ghost zones = { λ p. joined (P.ZoneSource.zones p.first) (Q.ZoneSource.zones p.second) };
 
@@ -41,26 +36,23 @@ impl<P: ZoneSource, Q: ZoneSource> ZoneSource for Beside<P, Q> {
     }
 
     fn name(&self, zone: usize) -> Option<&[u8]> {
-        match place_in(&self.first, &self.second, zone) {
+        match place_in(self, zone)? {
             Place::First(k) => self.first.name(k),
             Place::Second(k) => self.second.name(k),
-            Place::Neither => None,
         }
     }
 
     fn value(&self, zone: usize, second: i64) -> Option<Value> {
-        match place_in(&self.first, &self.second, zone) {
+        match place_in(self, zone)? {
             Place::First(k) => deep_value(&self.first, k, second),
             Place::Second(k) => deep_value(&self.second, k, second),
-            Place::Neither => None,
         }
     }
 
     fn change(&self, zone: usize, after: i64, before: i64) -> Option<i64> {
-        match place_in(&self.first, &self.second, zone) {
+        match place_in(self, zone)? {
             Place::First(k) => deep_change(&self.first, k, after, before),
             Place::Second(k) => deep_change(&self.second, k, after, before),
-            Place::Neither => None,
         }
     }
 }

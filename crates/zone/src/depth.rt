@@ -4,7 +4,7 @@ ghost use Rattle.zone.specs.Joining.{deeper_of, deepened};
 ghost use Rattle.zone.specs.Zones.{ValueIs, ChangeIs};
 
 use crate::source::ZoneSource;
-use crate::value::{Value, is_same};
+use crate::value::Value;
 
 // A value from one layer below: a blank is one deeper.
 fn deeper(value: Value) -> Value
@@ -23,8 +23,7 @@ fn deeper(value: Value) -> Value
 pub(crate) fn deep_value<Z: ZoneSource>(source: &Z, zone: usize, second: i64) -> Option<Value>
     ensures { ValueIs (deepened (Z.ZoneSource.zones source.now)) zone second result }
 {
-    let value = source.value(zone, second)?;
-    Some(deeper(value))
+    source.value(zone, second).map(deeper)
 }
 
 // The first change of a zone as it is seen from one layer above. Depths 254 and 255 look alike there, so that a change
@@ -40,7 +39,7 @@ pub(crate) fn deep_change<Z: ZoneSource>(
     let mut from = after;
     while let Some(s) = source.change(zone, from, before) {
         if let (Some(here), Some(last)) = (source.value(zone, s), source.value(zone, s - 1)) {
-            if !is_same(deeper(here), deeper(last)) {
+            if deeper(here) != deeper(last) {
                 return Some(s);
             }
         }

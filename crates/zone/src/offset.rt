@@ -9,5 +9,5 @@ pub const OFFSET_MOST: i32 = 86_399;
 pub fn is_offset(offset: i32) -> bool
     ensures { result ≡ is_offset offset }
 {
-    -OFFSET_MOST <= offset && offset <= OFFSET_MOST
+    (-OFFSET_MOST..=OFFSET_MOST).contains(&offset)
 }

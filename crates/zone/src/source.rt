@@ -1,6 +1,6 @@
 // What a zone source answers.
-ghost use Rattle.std.specs.Prelude.{◌≡◌};
-ghost use Rattle.zone.specs.Zones.{Zones, ZonesLaws, NameIs, FoundIs, ValueIs, ChangeIs};
+ghost use Rattle.std.specs.Prelude.{◌≡◌, Decides};
+ghost use Rattle.zone.specs.Zones.{Zones, ZonesLaws, Bears, NameIs, FoundIs, ValueIs, ChangeIs};
 
 use crate::value::Value;
 
@@ -21,15 +21,11 @@ pub trait ZoneSource {
     fn find(&self, name: &[u8]) -> Option<usize>
         ensures { FoundIs (zones self.now) name.now result }
     {
-        for k in 0..self.count() {
-            let Some(own) = self.name(k) else {
-                return None;
-            };
-            if own == name {
-                return Some(k);
-            }
-        }
-        None
+        (0..self.count()).find(
+            |&k|
+                ensures { Decides result (Bears (zones self.entry.now) k name.entry.now) }
+            { self.name(k) == Some(name) },
+        )
     }
 
     // What a zone says of a second.

@@ -1,12 +1,14 @@
 -- The first change of a zone of steps, as it is found, is the first change of what the steps tell.
-use Rattle.std.proofs.Common.{◌≡◌, Bool, true, false, cond, ◌&&◌, leb, List, [], ◌∷◌, length, ℤ, pos, ◌-ℤ◌, ◌≤ℤ◌, ◌<ℤ◌, Some, None, Option, sym, refl, ap, ◌∙◌, subst, arith}
+use Rattle.std.proofs.Common.{◌≡◌, Bool, true, false, ◌&&◌, leb, List, [], ◌∷◌, length, ℤ, pos, ◌-ℤ◌, ◌≤ℤ◌, ◌<ℤ◌, Some, None, Option, sym, refl, ap, ◌∙◌, arith}
 use lib.Signed.{lt_z, le_z}
 use Rattle.std.proofs.lemmas.Int.{ints, by_lt_z}
-use Rattle.zone.specs.declared.value.Value.TheVariants.{Offset, Blank}
+use Rattle.zone.specs.declared.value.Value.TheVariants.{Offset}
 use Rattle.zone.specs.Offsets.{is_offset}
 use Rattle.zone.specs.Zones.{SoundValue, FirstChange}
 use Rattle.zone_rule.specs.declared.step.Step.{Step}
-use Rattle.zone_rule.specs.Steps.{offset_at, is_after, rising, change_in, alters_at, is_well_made, steps_tell}
+use Rattle.zone_rule.specs.declared.steps.Offsets.{Offsets}
+use Rattle.zone_rule.specs.Telling.{offsets_tell}
+use Rattle.zone_rule.specs.Steps.{offset_at, is_after, rising, change_in, alters_at, is_well_made}
 
 -- a test with what it came to
 pub by_test : {P : Type 0} (b : Bool) → (b ≡ true → P) → (b ≡ false → P) → P
@@ -120,15 +122,12 @@ module _ (o : ℤ) (cs : List Step) where
   made_first : is_well_made o cs ≡ true → is_offset o ≡ true
   made_first w = and_left (is_offset o) (rising None cs) (and_right (leb (length cs) 8) _ w)
 
-  pub steps_change : (a b : ℤ) (q : Option ℤ) → is_well_made o cs ≡ true → q ≡ change_in o cs a b → FirstChange (steps_tell o cs) a b q
-  steps_change a b q w e =
-      let P : Bool → Type 0 = λ t. FirstChange (λ s. cond t (Offset (offset_at o cs s)) (Blank 1 0)) a b q in
-      subst P (sym w) (offsets_change cs o a b q (made_rising w) e)
+pub told_change : (r : Option Offsets) (o : Offsets) (a b : ℤ) (q : Option ℤ) → r ≡ Some o → q ≡ change_in o.first o.changes.now a b → FirstChange (offsets_tell r) a b q
+told_change r o a b q h e = rw h (offsets_change o.changes.now o.first a b q (made_rising o.first o.changes.now o.well_made) e)
 
-  pub blank_change : (a b : ℤ) → is_well_made o cs ≡ false → FirstChange (steps_tell o cs) a b None
-  blank_change a b w = λ t h k. rw w refl
+pub blank_change : (r : Option Offsets) (a b : ℤ) → r ≡ None → FirstChange (offsets_tell r) a b None
+blank_change r a b h = λ t k l. rw h refl
 
-  pub steps_sound : (s : ℤ) → SoundValue (steps_tell o cs s)
-  steps_sound s = by_test (is_well_made o cs)
-      (λ w. rw w (offsets_sound cs o s (made_first w) (made_rising w)))
-      (λ w. rw w (omega arith, omega arith))
+pub told_sound : (r : Option Offsets) (s : ℤ) → SoundValue (offsets_tell r s)
+told_sound None s = (omega arith, omega arith)
+told_sound (Some o) s = offsets_sound o.changes.now o.first s (made_first o.first o.changes.now o.well_made) (made_rising o.first o.changes.now o.well_made)

@@ -1,5 +1,5 @@
 // A source of one zone.
-ghost use Rattle.std.specs.Prelude.{◌≡◌};
+ghost use Rattle.std.specs.Prelude.{◌≡◌, ◌<◌, ◌≤◌, MatchOption};
 ghost use Rattle.names.specs.ZoneNamings.{zone_name_of};
 ghost use Rattle.zone_rule.specs.Naming.{one_or_none, named_zone};
 
@@ -20,7 +20,20 @@ pub struct NamedZone<'n, R> {
 fn count_of(name: &ZoneName<'_>) -> usize
     ensures { result ≡ one_or_none (zone_name_of name.now) }
 {
-    if name.is_in_form() { 1 } else { 0 }
+    usize::from(name.is_in_form())
+}
+
+impl<R: ZoneRule> NamedZone<'_, R> {
+    // The rule of a zone of the source; none for a zone that isn't there.
+    fn rule_of(&self, zone: usize) -> Option<&R>
+        ensures { MatchOption result (one_or_none (zone_name_of self.now.name) ≤ zone) (λ r. (zone < one_or_none (zone_name_of self.now.name)) × (r.now ≡ self.now.rule)) }
+    {
+        if zone < count_of(&self.name) {
+            Some(&self.rule)
+        } else {
+            None
+        }
+    }
 }
 
 impl<R: ZoneRule> ZoneSource for NamedZone<'_, R> {
@@ -32,23 +45,17 @@ impl<R: ZoneRule> ZoneSource for NamedZone<'_, R> {
     }
 
     fn name(&self, zone: usize) -> Option<&[u8]> {
-        if zone >= count_of(&self.name) {
-            return None;
-        }
+        let _rule = self.rule_of(zone)?;
         Some(self.name.bytes())
     }
 
     fn value(&self, zone: usize, second: i64) -> Option<Value> {
-        if zone >= count_of(&self.name) {
-            return None;
-        }
-        Some(self.rule.value(hold(second)))
+        let rule = self.rule_of(zone)?;
+        Some(rule.value(hold(second)))
     }
 
     fn change(&self, zone: usize, after: i64, before: i64) -> Option<i64> {
-        if zone >= count_of(&self.name) {
-            return None;
-        }
-        self.rule.change(cut_low(after), cut_high(before))
+        let rule = self.rule_of(zone)?;
+        rule.change(cut_low(after), cut_high(before))
     }
 }

@@ -12,25 +12,19 @@ const LAST: i64 = 253_402_387_199;
 pub(crate) fn hold(second: i64) -> i64
     ensures { result ≡ held second }
 {
-    if second < FIRST {
-        FIRST
-    } else if LAST < second {
-        LAST
-    } else {
-        second
-    }
+    second.clamp(FIRST, LAST)
 }
 
 // Before the second that follows FIRST nothing changes.
 pub(crate) fn cut_low(after: i64) -> i64
     ensures { result ≡ cut_low after }
 {
-    if after < FIRST { FIRST } else { after }
+    after.max(FIRST)
 }
 
 // After LAST nothing changes.
 pub(crate) fn cut_high(before: i64) -> i64
     ensures { result ≡ cut_high before }
 {
-    if LAST < before { LAST + 1 } else { before }
+    before.min(LAST + 1)
 }

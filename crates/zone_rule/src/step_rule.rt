@@ -5,8 +5,8 @@ ghost use Rattle.zone_rule.specs.Telling.{told_by};
 
 use crate::rule::ZoneRule;
 use crate::step::Step;
-use crate::steps::Steps;
-use crate::walk::{change_in, offset_at, rises};
+use crate::steps::{Offsets, Steps};
+use crate::walk::rises;
 use zone::offset::is_offset;
 use zone::value::Value;
 
@@ -24,12 +24,12 @@ impl<'a> Steps<'a> {
     pub fn new(first: i32, changes: &'a [Step]) -> Steps<'a>
         ensures { told_by result ≡ steps_tell first changes.now }
     {
-        let well_made = is_well_made(first, changes);
-        Steps {
-            first,
-            changes,
-            well_made,
-        }
+        let offsets = if is_well_made(first, changes) {
+            Some(Offsets { first, changes })
+        } else {
+            None
+        };
+        Steps { offsets }
     }
 }
 
@@ -39,16 +39,14 @@ impl ZoneRule for Steps<'_> {
     fn keeps_bounds(&self) {}
 
     fn value(&self, second: i64) -> Value {
-        if !self.well_made {
-            return Value::Blank { cause: 1, depth: 0 };
+        match self.offsets {
+            Some(offsets) => Value::Offset(offsets.at(second)),
+            None => Value::BADLY_MADE,
         }
-        Value::Offset(offset_at(self.first, self.changes, second))
     }
 
     fn change(&self, after: i64, before: i64) -> Option<i64> {
-        if !self.well_made {
-            return None;
-        }
-        change_in(self.first, self.changes, after, before)
+        let offsets = self.offsets?;
+        offsets.change(after, before)
     }
 }

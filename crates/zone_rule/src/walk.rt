@@ -3,21 +3,8 @@ ghost use Rattle.std.specs.Prelude.{◌≡◌, None};
 ghost use Rattle.zone_rule.specs.Steps.{offset_at, is_after, rising, alters_at, change_in};
 
 use crate::step::Step;
+use crate::steps::Offsets;
 use zone::offset::is_offset;
-
-// The offset at a second, of a zone that starts with `first`.
-pub(crate) fn offset_at(first: i32, changes: &[Step], second: i64) -> i32
-    ensures { result ≡ offset_at first changes.now second }
-{
-    let mut offset = first;
-    for c in changes {
-        if second < c.at {
-            return offset;
-        }
-        offset = c.offset;
-    }
-    offset
-}
 
 fn is_after(last: Option<i64>, at: i64) -> bool
     ensures { result ≡ is_after last at }
@@ -48,22 +35,38 @@ pub(crate) fn rises(changes: &[Step]) -> bool
 fn alters(offset: i32, after: i64, at: i64, next: i32) -> bool
     ensures { result ≡ alters_at offset after at next }
 {
-    after < at && (offset < next || next < offset)
+    after < at && offset != next
 }
 
-// The first change of offset after one second and before another.
-pub(crate) fn change_in(first: i32, changes: &[Step], after: i64, before: i64) -> Option<i64>
-    ensures { result ≡ change_in first changes.now after before }
-{
-    let mut offset = first;
-    for c in changes {
-        if before <= c.at {
-            return None;
+impl Offsets<'_> {
+    // The offset at a second.
+    pub(crate) fn at(&self, second: i64) -> i32
+        ensures { result ≡ offset_at self.now.first self.now.changes.now second }
+    {
+        let mut offset = self.first;
+        for c in self.changes {
+            if second < c.at {
+                return offset;
+            }
+            offset = c.offset;
         }
-        if alters(offset, after, c.at, c.offset) {
-            return Some(c.at);
-        }
-        offset = c.offset;
+        offset
     }
-    None
+
+    // The first change of offset after one second and before another.
+    pub(crate) fn change(&self, after: i64, before: i64) -> Option<i64>
+        ensures { result ≡ change_in self.now.first self.now.changes.now after before }
+    {
+        let mut offset = self.first;
+        for c in self.changes {
+            if before <= c.at {
+                return None;
+            }
+            if alters(offset, after, c.at, c.offset) {
+                return Some(c.at);
+            }
+            offset = c.offset;
+        }
+        None
+    }
 }

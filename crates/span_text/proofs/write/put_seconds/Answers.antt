@@ -1,11 +1,12 @@
-use Rattle.writing.proofs.Placings.{placed_more, placed_none, placed_onward}
+use Rattle.std.proofs.Common.{arith}
+use Rattle.writing.proofs.Puttings.{puts_none, puts_more}
 use Rattle.span_text.proofs.Pieces.{seconds_none, seconds_some}
 use Rattle.span_text.proofs.write.put_seconds.Goals as goal
 
-pub returns-then-micros-eq0 : goal.returns-then-micros-eq0
-returns-then-micros-eq0 c = placed_onward (rw (seconds_none c.args.micros c.if-micros-eq0.true) (placed_none _ _))
+pub returns-then-micros-gt0 : goal.returns-then-micros-gt0
+returns-then-micros-gt0 c =
+    rw (seconds_some c.args.micros (λ z. omega arith), ← c.from.ensures)
+    (puts_more (puts_more c.put_number.ensures c.put_point.ensures) c.put_byte.ensures)
 
-pub returns : goal.returns
-returns c =
-    placed_onward (rw (seconds_some c.args.micros c.if-micros-eq0.false, ← c.from.ensures)
-    (placed_more (placed_more c.put_number-point.ensures c.put_point-letter.ensures) c.put_byte.ensures))
+pub returns-else-micros-gt0 : goal.returns-else-micros-gt0
+returns-else-micros-gt0 c = rw (seconds_none c.args.micros (omega arith)) (puts_none _)

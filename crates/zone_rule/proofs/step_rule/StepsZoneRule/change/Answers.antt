@@ -1,16 +1,10 @@
-use Rattle.std.proofs.Common.{sym, ◌∙◌, arith}
+use Rattle.std.proofs.Common.{arith}
 use Rattle.std.proofs.lemmas.Int.{to_z-of_z}
-use Rattle.zone_rule.proofs.Changes.{steps_change, blank_change}
+use Rattle.zone_rule.proofs.Changes.{told_change, blank_change}
 use Rattle.zone_rule.proofs.step_rule.StepsZoneRule.change.Goals as goal
 
-pub returns-then-not-self : goal.returns-then-not-self
-returns-then-not-self c =
-    blank_change c.args.self.now.first c.args.self.now.changes.now c.args.after c.args.before
-    (sym c.args.self.now.judged ∙ c.if-not-self.true)
+pub returns-in_err-offsets : goal.returns-in_err-offsets
+returns-in_err-offsets c = rw c.from_residual.ensures (blank_change c.args.self.now.offsets c.args.after c.args.before c.in_err-offsets.was)
 
 pub returns : goal.returns
-returns c =
-    let z = c.args.self.now in
-    steps_change z.first z.changes.now c.args.after c.args.before c.change_in.result
-    (sym z.judged ∙ c.if-not-self.false)
-    (grind (arith, to_z-of_z))
+returns c = told_change c.args.self.now.offsets c.in_ok-offsets.offsets c.args.after c.args.before c.change.result c.in_ok-offsets.was (grind (arith, to_z-of_z))

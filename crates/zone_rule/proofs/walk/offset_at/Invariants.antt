@@ -1,6 +1,0 @@
-use Rattle.std.proofs.Common.{◌≡◌, drop}
-use Rattle.zone_rule.specs.Steps.{offset_at}
-use Rattle.zone_rule.proofs.walk.offset_at.Given as goal
-
-abbrev pub invariant-loop-c : goal.invariant-loop-c
-invariant-loop-c l = offset_at l.first l.changes l.second ≡ offset_at l.offset (drop l.c-index l.changes) l.second
