@@ -1,6 +1,6 @@
 // What a calendar source answers.
-ghost use Rattle.std.specs.Prelude.{◌≡◌, ℕ, ◌<◌, length};
-ghost use Rattle.calendar.specs.Calendars.{Calendars, CalendarsLaws, first_of, last_of, months_of, length_of, date_of, day_of, twin_of, FoundIs, NameIs};
+ghost use Rattle.std.specs.Prelude.{◌≡◌, Decides};
+ghost use Rattle.calendar.specs.Calendars.{Calendars, CalendarsLaws, first_of, last_of, months_of, length_of, date_of, day_of, twin_of, Bears, FoundIs, NameIs};
 
 use years::date::Date;
 
@@ -22,15 +22,11 @@ pub trait CalendarSource {
     fn find(&self, name: &[u8]) -> Option<usize>
         ensures { FoundIs (calendars self.now) name.now result }
     {
-        for k in 0..self.count() {
-            let Some(own) = self.name(k) else {
-                return None;
-            };
-            if own == name {
-                return Some(k);
-            }
-        }
-        None
+        (0..self.count()).find(
+            |&k|
+                ensures { Decides result (Bears (calendars self.entry.now) k name.entry.now) }
+            { self.name(k) == Some(name) },
+        )
     }
 
     fn first_year(&self, calendar: usize) -> Option<i32>
