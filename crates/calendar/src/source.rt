@@ -2,10 +2,11 @@
 ghost use Rattle.std.specs.Prelude.{◌≡◌, Decides};
 ghost use Rattle.calendar.specs.Calendars.{Calendars, CalendarsLaws, first_of, last_of, months_of, length_of, date_of, day_of, twin_of, Bears, FoundIs, NameIs};
 
+use side_by_side::ENTRIES_MOST;
 use years::date::Date;
 
 // The most calendars of a source.
-pub const CALENDARS_MOST: usize = 64;
+pub const CALENDARS_MOST: usize = ENTRIES_MOST;
 
 // A table of calendars, numbered from 0. The meaning is the ghost member: each answer is an equation over it. A number,
 // year, month, day or date that is not there is answered as none.
