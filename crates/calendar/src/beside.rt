@@ -19,7 +19,8 @@ fn place_in<P: CalendarSource, Q: CalendarSource>(
     place_among(pair.first.count(), pair.second.count(), calendar)
 }
 
-// The first's numbers, then the second's. Above 64 calendars in all only the first's are there.
+// The first's numbers, then the second's. Above 64 calendars in all only the first's are there. Each question has a match of its
+// own, since the two sources differ in type.
 impl<P: CalendarSource, Q: CalendarSource> CalendarSource for Beside<P, Q> {
     ghost calendars = { λ p. joined (P.CalendarSource.calendars p.first) (Q.CalendarSource.calendars p.second) };
 

@@ -81,7 +81,7 @@ fn second_month(days: u16) -> u8
     if matches!(days, 355 | 385) { 30 } else { 29 }
 }
 
-// Kislev, shorter in a deficient year.
+// Kislev, shorter in a deficient year. One function for both months would take two lengths and two days, and say no less.
 fn third_month(days: u16) -> u8
     ensures { result ≡ kislev days }
 {

@@ -47,7 +47,7 @@ impl fmt::Display for Comparison {
     }
 }
 
-// The date that a calendar gives a day, if any, to be printed.
+// The date that a calendar gives a day, if any, to be printed: a type of its own, since Display can't be written for Option.
 #[derive(Clone, Copy)]
 struct Given(Option<Date>);
 
