@@ -113,6 +113,10 @@ twin_of s k y m z = asked s k (λ c. month_there c y m && year_there c z) (λ c.
 abbrev pub NameIs : Calendars → ℕ → Option (Bor (List ℕ)) → Type 0
 NameIs s k r = options.MatchOption r (s.count ≤ k) (λ x. (k < s.count) × (x.now ≡ s.name k))
 
+-- a number is there, and bears a name
+abbrev pub Bears : Calendars → ℕ → List ℕ → Type 0
+Bears s k n = (k < s.count) × (s.name k ≡ n)
+
 -- the answer to the question for a name: the lowest number that bears it
 abbrev pub FoundIs : Calendars → List ℕ → Option ℕ → Type 0
 FoundIs s n r =

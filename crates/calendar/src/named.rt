@@ -2,10 +2,13 @@
 ghost use Rattle.std.specs.Prelude.{◌≡◌, ◌≤◌, length as size, take, is_ok};
 ghost use Rattle.names.specs.Scanning.{read_calendar_name};
 
-// A name of at most 16 bytes, and whether it is in form, which is judged once.
+use names::CALENDAR_NAME_LIMIT;
+
+// A name of at most 16 bytes, and whether it is in form, which is judged once. An array with a length beside it, since the
+// type stays Copy and takes the bytes of any loan.
 #[derive(Clone, Copy)]
 pub struct Named {
-    pub(crate) bytes: [u8; 16],
+    pub(crate) bytes: [u8; CALENDAR_NAME_LIMIT],
     pub(crate) length: usize,
     pub(crate) in_form: bool,
     ghost few: { length ≤ 16 },

@@ -11,24 +11,24 @@ impl Named {
     pub fn new(name: &[u8]) -> Named
         ensures { name_of result ≡ held_name name.now }
     {
-        let mut bytes = [0u8; 16];
-        let mut length = 0;
-        if name.len() <= CALENDAR_NAME_LIMIT {
-            length = name.len();
-            bytes[0..length].copy_from_slice(name);
-        }
-        let in_form = read_calendar_name(&bytes[0..length]).is_ok();
+        let held = if name.len() <= CALENDAR_NAME_LIMIT {
+            name
+        } else {
+            b""
+        };
+        let mut bytes = [0u8; CALENDAR_NAME_LIMIT];
+        bytes[..held.len()].copy_from_slice(held);
         Named {
             bytes,
-            length,
-            in_form,
+            length: held.len(),
+            in_form: read_calendar_name(held).is_ok(),
         }
     }
 
     pub fn bytes(&self) -> &[u8]
         ensures { result.now ≡ name_of self.now }
     {
-        &self.bytes[0..self.length]
+        &self.bytes[..self.length]
     }
 
     pub fn is_in_form(&self) -> bool

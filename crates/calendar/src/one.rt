@@ -1,40 +1,26 @@
 // Questions to one calendar that is told by the rule of its years.
 ghost use Rattle.std.specs.Prelude.{◌≡◌};
-ghost use Rattle.calendar.specs.Calendars.{months_in, length_in, date_in, twin_in};
-ghost use Rattle.calendar.specs.Singles.{calendar_of, day_number};
+ghost use Rattle.calendar.specs.Calendars.{months_in, length_in, twin_in};
+ghost use Rattle.calendar.specs.Singles.{calendar_of};
 
-use years::date::Date;
-use years::days::{date_of_day, day_of_date};
 use years::rule::YearRule;
 
 pub(crate) fn months_of<R: YearRule>(rule: &R, year: i32) -> Option<u8>
-    ensures { result ≡ months_in (calendar_of (R.YearRule.shape rule.now) (R.YearRule.start rule.now) (R.YearRule.first rule.now) (R.YearRule.past rule.now) (R.YearRule.origin rule.now) (R.YearRule.twin rule.now)) year }
+    ensures { result ≡ months_in (calendar_of (R.YearRule.years rule.now)) year }
 {
     let year = rule.year(year)?;
     Some(year.months)
 }
 
 pub(crate) fn length_of<R: YearRule>(rule: &R, year: i32, month: u8) -> Option<u8>
-    ensures { result ≡ length_in (calendar_of (R.YearRule.shape rule.now) (R.YearRule.start rule.now) (R.YearRule.first rule.now) (R.YearRule.past rule.now) (R.YearRule.origin rule.now) (R.YearRule.twin rule.now)) year month }
+    ensures { result ≡ length_in (calendar_of (R.YearRule.years rule.now)) year month }
 {
     let year = rule.year(year)?;
     year.length_of(month)
 }
 
-pub(crate) fn date_of<R: YearRule>(rule: &R, day: u32) -> Option<Date>
-    ensures { result ≡ date_in (calendar_of (R.YearRule.shape rule.now) (R.YearRule.start rule.now) (R.YearRule.first rule.now) (R.YearRule.past rule.now) (R.YearRule.origin rule.now) (R.YearRule.twin rule.now)) day }
-{
-    date_of_day(rule, day)
-}
-
-pub(crate) fn day_of<R: YearRule>(rule: &R, date: Date) -> Option<u32>
-    ensures { result ≡ day_number (R.YearRule.shape rule.now) (R.YearRule.start rule.now) (R.YearRule.first rule.now) (R.YearRule.past rule.now) (R.YearRule.origin rule.now) (R.YearRule.twin rule.now) date }
-{
-    day_of_date(rule, date)
-}
-
 pub(crate) fn twin_of<R: YearRule>(rule: &R, year: i32, month: u8, other: i32) -> Option<u8>
-    ensures { result ≡ twin_in (calendar_of (R.YearRule.shape rule.now) (R.YearRule.start rule.now) (R.YearRule.first rule.now) (R.YearRule.past rule.now) (R.YearRule.origin rule.now) (R.YearRule.twin rule.now)) year month other }
+    ensures { result ≡ twin_in (calendar_of (R.YearRule.years rule.now)) year month other }
 {
     let _length = length_of(rule, year, month)?;
     let _months = months_of(rule, other)?;

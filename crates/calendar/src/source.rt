@@ -1,11 +1,12 @@
 // What a calendar source answers.
-ghost use Rattle.std.specs.Prelude.{◌≡◌, ℕ, ◌<◌, length};
-ghost use Rattle.calendar.specs.Calendars.{Calendars, CalendarsLaws, first_of, last_of, months_of, length_of, date_of, day_of, twin_of, FoundIs, NameIs};
+ghost use Rattle.std.specs.Prelude.{◌≡◌, Decides};
+ghost use Rattle.calendar.specs.Calendars.{Calendars, CalendarsLaws, first_of, last_of, months_of, length_of, date_of, day_of, twin_of, Bears, FoundIs, NameIs};
 
+use side_by_side::ENTRIES_MOST;
 use years::date::Date;
 
 // The most calendars of a source.
-pub const CALENDARS_MOST: usize = 64;
+pub const CALENDARS_MOST: usize = ENTRIES_MOST;
 
 // A table of calendars, numbered from 0. The meaning is the ghost member: each answer is an equation over it. A number,
 // year, month, day or date that is not there is answered as none.
@@ -22,15 +23,11 @@ pub trait CalendarSource {
     fn find(&self, name: &[u8]) -> Option<usize>
         ensures { FoundIs (calendars self.now) name.now result }
     {
-        for k in 0..self.count() {
-            let Some(own) = self.name(k) else {
-                return None;
-            };
-            if own == name {
-                return Some(k);
-            }
-        }
-        None
+        (0..self.count()).find(
+            |&k|
+                ensures { Decides result (Bears (calendars self.entry.now) k name.entry.now) }
+            { self.name(k) == Some(name) },
+        )
     }
 
     fn first_year(&self, calendar: usize) -> Option<i32>

@@ -25,11 +25,8 @@ mod tests {
         }
     }
 
-    fn is(date: Option<Date>, year: i32, month: u8, day: u8) -> bool {
-        match date {
-            Some(d) => d.year == year && d.month == month && d.day == day,
-            None => false,
-        }
+    fn date(year: i32, month: u8, day: u8) -> Date {
+        Date { year, month, day }
     }
 
     #[test]
@@ -43,15 +40,10 @@ mod tests {
     #[test]
     fn days_have_dates(rt: HostRuntime) {
         let source = both();
-        assert!(rt; is(source.date(0, 730_120), 2000, 1, 1));
-        assert!(rt; is(source.date(1, 730_120), 5760, 4, 23));
+        assert!(rt; source.date(0, 730_120) == Some(date(2000, 1, 1)));
+        assert!(rt; source.date(1, 730_120) == Some(date(5760, 4, 23)));
         assert!(rt; source.date(0, 0).is_none() && source.date(2, 1).is_none());
-        let date = Date {
-            year: 5760,
-            month: 4,
-            day: 23,
-        };
-        assert!(rt; source.day(1, date) == Some(730_120));
+        assert!(rt; source.day(1, date(5760, 4, 23)) == Some(730_120));
     }
 
     #[test]
@@ -76,16 +68,8 @@ mod tests {
     #[test]
     fn dates_are_in_order(rt: HostRuntime) {
         let source = both();
-        let first = Date {
-            year: 1999,
-            month: 12,
-            day: 31,
-        };
-        let second = Date {
-            year: 2000,
-            month: 1,
-            day: 1,
-        };
+        let first = date(1999, 12, 31);
+        let second = date(2000, 1, 1);
         assert!(rt; comes_before(&source, 0, first, second) == Some(true));
         assert!(rt; comes_before(&source, 0, second, first) == Some(false));
     }

@@ -2,7 +2,7 @@
 use Rattle.std.proofs.Common.{◌≡◌, ℕ, zero, suc, ◌+◌, ◌-◌, ◌<◌, ◌≤◌, Bool, true, false, List, [], ◌∷◌, get_or, pos, sym, ap, ◌∙◌, le_of_suc-le-suc, not-suc-le-zero, add-zero, add-suc, suc-add, arith}
 use Rattle.years.specs.declared.rule.Year.{Year}
 use Rattle.years.specs.Rules.{IsYear}
-use Rattle.hebrew.specs.Calendar.{elapsed, molad_day, postponed, new_year, corrected, year_start, leap, length_of_year, months_of, month_length, listed, lengths, hebrew, hebrew_start}
+use Rattle.hebrew.specs.Calendar.{elapsed, molad_day, postponed, new_year, corrected, year_start, leap, length_of_year, months_of, month_length, listed, lengths, hebrew_start, hebrew_years}
 use Rattle.hebrew.specs.Tishri.{days_right}
 
 alike : (a b c x y z : ℕ) → a ≡ x → b ≡ y → c ≡ z → corrected a b c ≡ corrected x y z
@@ -35,7 +35,7 @@ lengths_right false n m low high =
     listed_at (month_length false n) 1 12 (0 ∷ 0 ∷ []) (m - 1) (omega arith) ∙ ap (month_length false n) e
 
 pub year_right : (y : ℕ) (b : Bool) (n : ℕ) (r : Year) → 3761 ≤ y → y < 13761 → b ≡ leap y → n ≡ length_of_year y →
-    r.start ≡ hebrew_start (pos y) → r.days ≡ n → r.months ≡ months_of b → r.lengths ≡ lengths b n → IsYear hebrew hebrew_start (pos y) r
+    r.start ≡ hebrew_start (pos y) → r.days ≡ n → r.months ≡ months_of b → r.lengths ≡ lengths b n → IsYear hebrew_years (pos y) r
 year_right y b n r low high eb en s d m l = record {
   starts = s;
   days = d ∙ (en ∙ sym (days_right y low high));

@@ -1,7 +1,7 @@
 -- The Hebrew calendar, its months counted from Tishri. Years here are natural numbers; all divisions round downward.
 use Rattle.std.specs.Prelude.{ℕ, zero, suc, ◌+◌, ◌-◌, ◌*◌, ◌/◌, ◌%◌, Bool, true, false, cond, not, ◌&&◌, ◌||◌, List, [], ◌∷◌, ℤ, pos, ◌-ℤ◌, ◌==◌, nat_le, nat_lt, unsigned_abs}
 use Rattle.years.specs.declared.date.Date.{Date}
-use Rattle.years.specs.Dates.{Shape}
+use Rattle.years.specs.Dates.{Shape, Years}
 
 -- the months before a year
 abbrev pub elapsed : ℕ → ℕ
@@ -88,3 +88,7 @@ moved here there m = cond (not here && (there && (nat_le 6 m && nat_le m 12))) (
 -- the month of the other year that stands for a month of this one
 abbrev pub twin : ℤ → ℕ → ℤ → ℕ
 twin year month other = moved (leap (unsigned_abs year)) (leap (unsigned_abs other)) month
+
+-- years 3761 to 13,760
+abbrev pub hebrew_years : Years
+hebrew_years = record { shape = hebrew; start = hebrew_start; first = pos 3761; past = pos 13761; origin = day_one; twin = twin }

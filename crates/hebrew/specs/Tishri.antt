@@ -5,7 +5,7 @@ use Rattle.std.proofs.lemmas.Int.{ints}
 use Rattle.std.proofs.lemmas.Bool.Decides.{nat_tests}
 use Rattle.years.specs.Dates.{days_in, Adds}
 use Rattle.years.specs.Days.{Fitting, InRange, Near}
-use Rattle.hebrew.specs.Calendar.{new_year, year_start, leap, length_of_year, months_of, month_length, hebrew, hebrew_start, day_one}
+use Rattle.hebrew.specs.Calendar.{new_year, year_start, leap, length_of_year, months_of, month_length, hebrew, hebrew_start, hebrew_years}
 use Rattle.years.proofs.Guesses.{near_by}
 use Rattle.hebrew.specs.Tables.{every, within, both_left, both_right}
 
@@ -80,7 +80,7 @@ pub days_right : (y : ℕ) → 3761 ≤ y → y < 13761 → days_in hebrew (pos 
 days_right y low high =
     same y (months_of (leap y)) ∙ add_up (leap y) (length_of_year y) (right_year y low high).lengths
 
-adds : Adds hebrew hebrew_start (pos 3761) (pos 13761)
+adds : Adds hebrew_years
 adds (pos y) low high =
     let a = days_right y (omega (arith, ints)) (omega (arith, ints)) in
     let p = year_days y (omega (arith, ints)) (omega (arith, ints)) in
@@ -94,7 +94,7 @@ few false = (omega arith, omega arith)
 small : (b : Bool) (n m : ℕ) → (1 ≤ month_length b n m) × (month_length b n m ≤ 31)
 small b n m = grind (arith, nat_tests)
 
-pub hebrew_fits : Fitting hebrew hebrew_start (pos 3761) (pos 13761) day_one
+pub hebrew_fits : Fitting hebrew_years
 unfolding year_start new_year
 hebrew_fits = record {
   filled = record { some_month = λ y. (few (leap (unsigned_abs y))).0; some_day = λ y m _ _. (small (leap (unsigned_abs y)) (length_of_year (unsigned_abs y)) m).0 };
@@ -118,8 +118,8 @@ near : (y n : ℕ) → Right y → 3761 ≤ y → year_start y ≤ n + 1373427 �
     (y ≤ (n + 475) * 400 / 146099 + 3760 + 1) × ((n + 475) * 400 / 146099 + 3760 ≤ y + 1)
 near y n r low starts ends = (omega arith, omega arith)
 
-pub hebrew_near : (n : ℕ) (g : ℤ) → InRange n → g ≡ pos ((n + 475) * 400 / 146099 + 3760) → Near hebrew_start (pos 3761) (pos 13761) n g
-hebrew_near n g r e = near_by hebrew hebrew_start (pos 3761) (pos 13761) day_one hebrew_fits n g r (beside n g e)
+pub hebrew_near : (n : ℕ) (g : ℤ) → InRange n → g ≡ pos ((n + 475) * 400 / 146099 + 3760) → Near hebrew_years n g
+hebrew_near n g r e = near_by hebrew_years hebrew_fits n g r (beside n g e)
   where
     beside : (n : ℕ) (g : ℤ) → g ≡ pos ((n + 475) * 400 / 146099 + 3760) → (y : ℤ) → pos 3761 ≤ℤ y → y <ℤ pos 13761 → hebrew_start y ≤ℤ pos n → pos n <ℤ hebrew_start (y +ℤ pos 1) → ((y -ℤ pos 1) ≤ℤ g) × (g ≤ℤ (y +ℤ pos 1))
     beside n g e (pos y) low high starts ends =

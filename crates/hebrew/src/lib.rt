@@ -3,11 +3,11 @@
 #![tactic(auto)]
 
 ghost use Rattle.std.specs.Prelude.{◌≡◌, ◌+◌, ◌*◌, ◌/◌, ◌<◌, ◌≤◌, pos};
-ghost use Rattle.hebrew.specs.Calendar.{leap, elapsed, molad_day, postponed, corrected, year_start, marheshvan, kislev, leap_lengths, common_lengths, months_of, lengths, hebrew, hebrew_start, day_one, moved as moved_month, twin};
+ghost use Rattle.hebrew.specs.Calendar.{leap, elapsed, molad_day, postponed, corrected, year_start, marheshvan, kislev, months_of, lengths, hebrew_years, moved as moved_month};
 ghost use Rattle.years.specs.Rules.{IsYear};
-ghost use Rattle.hebrew.specs.Tishri.{hebrew_fits};
-ghost use Rattle.hebrew.specs.Twins.{hebrew_bounded, hebrew_twins};
+ghost use Rattle.hebrew.specs.Twins.{hebrew_laws};
 
+use years::days::LAST_DAY;
 use years::rule::{MONTHS_MOST, Year, YearRule};
 
 #[derive(Clone, Copy)]
@@ -17,12 +17,11 @@ const FIRST_YEAR: i32 = 3761;
 
 const PAST_YEAR: i32 = 13_761;
 
-const LAST_DAY: u32 = 3_652_059;
-
 // the days of the calendar's own count up to day 0
 const EPOCH: i32 = 1_373_427;
 
-fn is_leap(year: u32) -> bool
+// Whether a year has thirteen months: seven of each nineteen have.
+pub fn is_leap(year: u32) -> bool
     ensures { result ≡ leap year }
 {
     (7 * u64::from(year) + 1) % 19 < 7
@@ -79,41 +78,26 @@ fn starts_of(year: u32) -> (u32, u32)
 fn second_month(days: u16) -> u8
     ensures { result ≡ marheshvan days }
 {
-    if days == 355 || days == 385 { 30 } else { 29 }
+    if matches!(days, 355 | 385) { 30 } else { 29 }
 }
 
-// Kislev, shorter in a deficient year.
+// Kislev, shorter in a deficient year. One function for both months would take two lengths and two days, and say no less.
 fn third_month(days: u16) -> u8
     ensures { result ≡ kislev days }
 {
-    if days == 353 || days == 383 { 29 } else { 30 }
+    if matches!(days, 353 | 383) { 29 } else { 30 }
 }
 
-// The months of a leap year, the sixth being the one more.
-fn leap_lengths(days: u16) -> [u8; MONTHS_MOST]
-    ensures { result ≡ leap_lengths days }
-{
-    let second = second_month(days);
-    let third = third_month(days);
-    [30, second, third, 29, 30, 30, 29, 30, 29, 30, 29, 30, 29, 0]
-}
-
-// The months of a common year: 30 and 29 days by turns, but for the second and third.
-fn common_lengths(days: u16) -> [u8; MONTHS_MOST]
-    ensures { result ≡ common_lengths days }
-{
-    let second = second_month(days);
-    let third = third_month(days);
-    [30, second, third, 29, 30, 29, 30, 29, 30, 29, 30, 29, 0, 0]
-}
-
+// The lengths of the months: 30 and 29 days by turns but for the second and third, and in a leap year the sixth is one more.
 fn lengths_of(leap_year: bool, days: u16) -> [u8; MONTHS_MOST]
     ensures { result ≡ lengths leap_year days }
 {
+    let second = second_month(days);
+    let third = third_month(days);
     if leap_year {
-        leap_lengths(days)
+        [30, second, third, 29, 30, 30, 29, 30, 29, 30, 29, 30, 29, 0]
     } else {
-        common_lengths(days)
+        [30, second, third, 29, 30, 29, 30, 29, 30, 29, 30, 29, 0, 0]
     }
 }
 
@@ -125,7 +109,7 @@ fn months_of(leap_year: bool) -> u8
 
 fn year_of(year: u32) -> Year
     requires { (3761 ≤ year) × (year < 13761) }
-    ensures { IsYear hebrew hebrew_start (pos year) result }
+    ensures { IsYear hebrew_years (pos year) result }
 {
     let (start, next) = starts_of(year);
     let days = (next - start) as u16;
@@ -150,33 +134,17 @@ fn guess(day: u32) -> u32
 fn moved(here: bool, there: bool, month: u8) -> u8
     ensures { result ≡ moved_month here there month }
 {
-    if !here && there && month >= 6 && month <= 12 {
-        month + 1
-    } else if here && !there && month >= 7 {
-        month - 1
-    } else {
-        month
+    match (here, there, month) {
+        (false, true, 6..=12) => month + 1,
+        (true, false, 7..) => month - 1,
+        _ => month,
     }
 }
 
 impl YearRule for Hebrew {
-    ghost shape = { λ _. hebrew };
+    ghost years = { λ _. hebrew_years };
 
-    ghost start = { λ _. hebrew_start };
-
-    ghost first = { λ _. pos 3761 };
-
-    ghost past = { λ _. pos 13761 };
-
-    ghost origin = { λ _. day_one };
-
-    ghost twin = { λ _. twin };
-
-    ghost fitting = { λ c. hebrew_fits };
-
-    ghost bounded = { λ c. hebrew_bounded };
-
-    ghost twins = { λ c. hebrew_twins };
+    ghost lawful = { λ _. hebrew_laws };
 
     fn first_year(&self) -> i32 {
         FIRST_YEAR
@@ -187,7 +155,7 @@ impl YearRule for Hebrew {
     }
 
     fn year(&self, year: i32) -> Option<Year> {
-        if year < FIRST_YEAR || year >= PAST_YEAR {
+        if !(FIRST_YEAR..PAST_YEAR).contains(&year) {
             return None;
         }
         Some(year_of(year as u32))

@@ -1,7 +1,7 @@
 -- The Gregorian calendar, carried back to year 1.
 use Rattle.std.specs.Prelude.{ℕ, ◌+◌, ◌-◌, ◌*◌, ◌/◌, ◌%◌, Bool, cond, not, ◌&&◌, ◌||◌, List, [], ◌∷◌, ℤ, pos, ◌==◌, slice_index, unsigned_abs}
 use Rattle.years.specs.declared.date.Date.{Date}
-use Rattle.years.specs.Dates.{Shape}
+use Rattle.years.specs.Dates.{Shape, Years}
 
 abbrev pub leap : ℕ → Bool
 leap y = y % 4 == 0 && (not (y % 100 == 0) || y % 400 == 0)
@@ -29,3 +29,7 @@ first_of_january = record { year = pos 1; month = 1; day = 1 }
 -- a month's place in another year: every year has the same months
 abbrev pub twin : ℤ → ℕ → ℤ → ℕ
 twin year month other = month
+
+-- years 1 to 9999
+abbrev pub gregorian_years : Years
+gregorian_years = record { shape = gregorian; start = gregorian_start; first = pos 1; past = pos 10000; origin = first_of_january; twin = twin }

@@ -6,14 +6,14 @@ use Rattle.std.proofs.lemmas.Bool.{leb-true, and_parts, false≢true}
 use Rattle.std.proofs.lemmas.Bool.Decides.{nat_tests}
 use Rattle.years.specs.Dates.{Adds}
 use Rattle.years.specs.Days.{Fitting, InRange, Near}
-use Rattle.iso8601.specs.Gregorian.{leap, february, lengths, gregorian, start_of, gregorian_start, first_of_january}
+use Rattle.iso8601.specs.Gregorian.{leap, february, lengths, start_of, gregorian_start, gregorian_years}
 use Rattle.years.proofs.Guesses.{near_by}
 
 -- a year is longer by the leap day
 year_adds : (y : ℕ) → 1 ≤ y → start_of (y + 1) ≡ start_of y + (337 + february (leap y))
 year_adds y low = grind (arith, nat_tests)
 
-adds : Adds gregorian gregorian_start (pos 1) (pos 10000)
+adds : Adds gregorian_years
 adds (pos y) low high = let a = year_adds y (omega (arith, ints)) in ap pos (a ∙ omega arith)
 adds (negsuc y) low high = absurd low.le
 
@@ -46,7 +46,7 @@ long : (b : Bool) (k : ℕ) → k < 12 → 1 ≤ slice_index (lengths b) k
 long true k h = least 12 (lengths true) refl k h
 long false k h = least 12 (lengths false) refl k h
 
-pub gregorian_fits : Fitting gregorian gregorian_start (pos 1) (pos 10000) first_of_january
+pub gregorian_fits : Fitting gregorian_years
 gregorian_fits = record {
   filled = record { some_month = λ y. omega arith; some_day = λ y m l h. long (leap (unsigned_abs y)) (m - 1) (omega arith) };
   adds = adds;
@@ -68,9 +68,9 @@ gregorian_fits = record {
 near : (y n : ℕ) → 1 ≤ y → start_of y ≤ n → n < start_of (y + 1) → (y ≤ n * 400 / 146097 + 1 + 1) × (n * 400 / 146097 + 1 ≤ y + 1)
 near y n low starts ends = (omega arith, omega arith)
 
-pub gregorian_near : (n : ℕ) (g : ℤ) → InRange n → g ≡ pos (n * 400 / 146097 + 1) → Near gregorian_start (pos 1) (pos 10000) n g
+pub gregorian_near : (n : ℕ) (g : ℤ) → InRange n → g ≡ pos (n * 400 / 146097 + 1) → Near gregorian_years n g
 gregorian_near n g r e =
-    near_by gregorian gregorian_start (pos 1) (pos 10000) first_of_january gregorian_fits n g r (beside n g e)
+    near_by gregorian_years gregorian_fits n g r (beside n g e)
   where
     beside : (n : ℕ) (g : ℤ) → g ≡ pos (n * 400 / 146097 + 1) → (y : ℤ) → pos 1 ≤ℤ y → y <ℤ pos 10000 → gregorian_start y ≤ℤ pos n → pos n <ℤ gregorian_start (y +ℤ pos 1) → ((y -ℤ pos 1) ≤ℤ g) × (g ≤ℤ (y +ℤ pos 1))
     beside n g e (pos y) low high starts ends =

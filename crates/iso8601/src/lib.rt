@@ -1,11 +1,11 @@
 // The Gregorian calendar, carried back to year 1: years 1 to 9999, and day 1 is 1 January of year 1.
 #![tactic(auto)]
 
-ghost use Rattle.std.specs.Prelude.{◌≡◌, ◌+◌, ◌*◌, ◌/◌, ◌≤◌, pos};
-ghost use Rattle.iso8601.specs.Gregorian.{leap, lengths, start_of, gregorian, gregorian_start, first_of_january, twin};
-ghost use Rattle.iso8601.specs.Proleptic.{gregorian_fits};
-ghost use Rattle.iso8601.specs.Twins.{gregorian_bounded, gregorian_twins};
+ghost use Rattle.std.specs.Prelude.{◌≡◌, ◌+◌, ◌*◌, ◌/◌, ◌≤◌};
+ghost use Rattle.iso8601.specs.Gregorian.{leap, lengths, start_of, gregorian_years};
+ghost use Rattle.iso8601.specs.Twins.{gregorian_laws};
 
+use years::days::LAST_DAY;
 use years::rule::{MONTHS_MOST, Year, YearRule};
 
 #[derive(Clone, Copy)]
@@ -14,8 +14,6 @@ pub struct Iso8601;
 const FIRST_YEAR: i32 = 1;
 
 const PAST_YEAR: i32 = 10_000;
-
-const LAST_DAY: u32 = 3_652_059;
 
 fn is_leap(year: u32) -> bool
     ensures { result ≡ leap year }
@@ -50,23 +48,9 @@ fn guess(day: u32) -> u32
 }
 
 impl YearRule for Iso8601 {
-    ghost shape = { λ _. gregorian };
+    ghost years = { λ _. gregorian_years };
 
-    ghost start = { λ _. gregorian_start };
-
-    ghost first = { λ _. pos 1 };
-
-    ghost past = { λ _. pos 10000 };
-
-    ghost origin = { λ _. first_of_january };
-
-    ghost twin = { λ _. twin };
-
-    ghost fitting = { λ c. gregorian_fits };
-
-    ghost bounded = { λ c. gregorian_bounded };
-
-    ghost twins = { λ c. gregorian_twins };
+    ghost lawful = { λ _. gregorian_laws };
 
     fn first_year(&self) -> i32 {
         FIRST_YEAR
@@ -77,7 +61,7 @@ impl YearRule for Iso8601 {
     }
 
     fn year(&self, year: i32) -> Option<Year> {
-        if year < FIRST_YEAR || year >= PAST_YEAR {
+        if !(FIRST_YEAR..PAST_YEAR).contains(&year) {
             return None;
         }
         let number = year as u32;

@@ -1,13 +1,12 @@
 -- Known days, computed: a date that is valid, lies in the calendar's years and has the number n is the date of day n.
-use Rattle.std.proofs.Common.{◌≡◌, ℕ, ◌+◌, ◌-◌, ◌≤◌, Bool, ◌&&◌, T, leb, ℤ, pos, sym, refl, arith, leb→le}
+use Rattle.std.proofs.Common.{◌≡◌, ℕ, ◌+◌, ◌-◌, ◌≤◌, Bool, ◌&&◌, T, leb, pos, sym, refl, arith, leb→le}
 use Rattle.std.proofs.lemmas.Int.{ints}
-use Rattle.years.specs.declared.date.Date.{Date}
-use Rattle.years.specs.Dates.{Shape, after, number}
+use Rattle.years.specs.Dates.{Shape, Years, after, number}
 use Rattle.years.specs.Days.{Fitting}
 use Rattle.years.proofs.Numbers.{found}
-use Rattle.iso8601.specs.Gregorian.{gregorian, gregorian_start, first_of_january}
+use Rattle.iso8601.specs.Gregorian.{gregorian, gregorian_start, gregorian_years}
 use Rattle.iso8601.specs.Proleptic.{gregorian_fits}
-use Rattle.hebrew.specs.Calendar.{hebrew, hebrew_start, day_one, year_start, new_year}
+use Rattle.hebrew.specs.Calendar.{hebrew, hebrew_start, hebrew_years, year_start, new_year}
 use Rattle.hebrew.specs.Tables.{both_left, both_right}
 use Rattle.hebrew.specs.Tishri.{hebrew_fits}
 use Rattle.known_days.specs.Known.{dated, GregorianDay, HebrewDay, GregorianDays, HebrewDays, KnownDays}
@@ -29,27 +28,27 @@ valid s y m d = from_to 1 (s.months (pos y)) m && from_to 1 (s.size (pos y) m) d
 abbrev counted : ℕ → ℕ → ℕ → ℕ → Bool
 counted lo hi n y = from_to 1 3652059 n && from_to lo hi y
 
-module _ (s : Shape) (start : ℤ → ℤ) (lo hi : ℕ) (o : Date) (f : Fitting s start (pos lo) (pos (hi + 1)) o) where
-  known : (n y m d : ℕ) → T (counted lo hi n y && valid s y m d) → number s start (dated y m d) ≡ pos n → after s o (n - 1) ≡ dated y m d
+module _ (ys : Years) (lo hi : ℕ) (f : Fitting ys) (first : ys.first ≡ pos lo) (past : ys.past ≡ pos (hi + 1)) where
+  known : (n y m d : ℕ) → T (counted lo hi n y && valid ys.shape y m d) → number ys.shape ys.start (dated y m d) ≡ pos n → after ys.shape ys.origin (n - 1) ≡ dated y m d
   known n y m d t is =
-      let c = both_left (counted lo hi n y) (valid s y m d) t in
-      let v = both_right (counted lo hi n y) (valid s y m d) t in
+      let c = both_left (counted lo hi n y) (valid ys.shape y m d) t in
+      let v = both_right (counted lo hi n y) (valid ys.shape y m d) t in
       let number_in = both_left (from_to 1 3652059 n) (from_to lo hi y) c in
       let year_in = both_right (from_to 1 3652059 n) (from_to lo hi y) c in
-      let months = s.months (pos y) in
-      let size = s.size (pos y) m in
+      let months = ys.shape.months (pos y) in
+      let size = ys.shape.size (pos y) m in
       let month_in = both_left (from_to 1 months m) (from_to 1 size d) v in
       let day_in = both_right (from_to 1 months m) (from_to 1 size d) v in
       let year_low = low lo hi y year_in in
       let year_high = high lo hi y year_in in
-      sym (found s start (pos lo) (pos (hi + 1)) o f (dated y m d) n (record { low = low 1 3652059 n number_in; high = high 1 3652059 n number_in })
+      sym (found ys f (dated y m d) n (record { low = low 1 3652059 n number_in; high = high 1 3652059 n number_in })
       (record { valid = record { month_low = low 1 months m month_in; month_high = high 1 months m month_in; day_low = low 1 size d day_in; day_high = high 1 size d day_in }; low = omega (arith, ints); high = omega (arith, ints); is = is }))
 
 pub gregorian_day : {n y m d : ℕ} → T (counted 1 9999 n y && valid gregorian y m d) → number gregorian gregorian_start (dated y m d) ≡ pos n → GregorianDay n y m d
-gregorian_day {n} {y} {m} {d} t is = record { is = known gregorian gregorian_start 1 9999 first_of_january gregorian_fits n y m d t is }
+gregorian_day {n} {y} {m} {d} t is = record { is = known gregorian_years 1 9999 gregorian_fits refl refl n y m d t is }
 
 pub hebrew_day : {n y m d : ℕ} → T (counted 3761 13760 n y && valid hebrew y m d) → number hebrew hebrew_start (dated y m d) ≡ pos n → HebrewDay n y m d
-hebrew_day {n} {y} {m} {d} t is = record { is = known hebrew hebrew_start 3761 13760 day_one hebrew_fits n y m d t is }
+hebrew_day {n} {y} {m} {d} t is = record { is = known hebrew_years 3761 13760 hebrew_fits refl refl n y m d t is }
 
 gregorian_days : GregorianDays
 gregorian_days = record {

@@ -1,42 +1,28 @@
 // What a calendar says of a day number and the date that a table gives it.
-ghost use Rattle.std.specs.Prelude.{◌≡◌, ◌-◌, Decides};
-ghost use Rattle.years.specs.Dates.{after};
-ghost use Rattle.years.specs.Days.{InRange};
+ghost use Rattle.std.specs.Prelude.{Decides};
+ghost use Rattle.years.specs.Days.{HasDate};
 
 use years::date::Date;
 use years::days::{date_of_day, day_of_date};
 use years::rule::YearRule;
 
-// Whether the calendar and the table agree, from the day to the date and from the date to the day: the date is the one
-// that comes so many days after that of day 1.
+// Whether the calendar and the table agree, from the day to the date and from the date to the day.
 pub(crate) fn agrees<R: YearRule>(rule: &R, day: u32, date: Date) -> bool
-    ensures { Decides result (InRange day × (date ≡ after (R.YearRule.shape rule.now) (R.YearRule.origin rule.now) (day - 1))) }
+    ensures { Decides result (HasDate (R.YearRule.years rule.now) day date) }
 {
     has_date(rule, day, date) && has_day(rule, date, day)
 }
 
 // Whether the calendar gives the day this date.
 fn has_date<R: YearRule>(rule: &R, day: u32, date: Date) -> bool
-    ensures { Decides result (InRange day × (date ≡ after (R.YearRule.shape rule.now) (R.YearRule.origin rule.now) (day - 1))) }
+    ensures { Decides result (HasDate (R.YearRule.years rule.now) day date) }
 {
-    match date_of_day(rule, day) {
-        Some(given) => is_same(given, date),
-        None => false,
-    }
+    date_of_day(rule, day) == Some(date)
 }
 
 // Whether the calendar gives the date this day.
 fn has_day<R: YearRule>(rule: &R, date: Date, day: u32) -> bool
-    ensures { Decides result (InRange day × (date ≡ after (R.YearRule.shape rule.now) (R.YearRule.origin rule.now) (day - 1))) }
+    ensures { Decides result (HasDate (R.YearRule.years rule.now) day date) }
 {
-    match day_of_date(rule, date) {
-        Some(given) => given == day,
-        None => false,
-    }
-}
-
-fn is_same(date: Date, other: Date) -> bool
-    ensures { Decides result (date ≡ other) }
-{
-    date.year == other.year && date.month == other.month && date.day == other.day
+    day_of_date(rule, date) == Some(day)
 }

@@ -6,7 +6,7 @@ mod compare;
 mod report;
 mod row;
 
-use report::{Report, Tally};
+use report::{Comparison, Tally};
 use row::{is_row, read_row};
 use std::fs;
 
@@ -14,23 +14,27 @@ const TABLES: [&str; 2] = ["published-days.tsv", "hebrew-years.tsv"];
 
 fn report_table(rt: &HostRuntime, name: &str, tally: &mut Tally) -> anyhow::Result<()> {
     let table = fs::read_to_string(rt, name)?;
-    for line in table.lines() {
-        if is_row(line) {
-            let report = Report::of(read_row(line));
-            tally.note(report.is_ok());
-            println!(rt; "{report}")?;
+    for line in table.lines().filter(|line| is_row(line)) {
+        match read_row(line).map(Comparison::of) {
+            Some(comparison) => {
+                tally.note(comparison.is_ok());
+                println!(rt; "{comparison}")?;
+            }
+            None => {
+                tally.note(false);
+                println!(rt; "unreadable")?;
+            }
         }
     }
     Ok(())
 }
 
 fn main(rt: HostRuntime) -> anyhow::Result<()> {
-    let mut tally = Tally::new();
+    let mut tally = Tally::default();
     for name in TABLES {
         report_table(&rt, name, &mut tally)?;
     }
-    let rows = tally.rows;
-    let differ = tally.differ;
+    let Tally { rows, differ } = tally;
     println!(rt; "{rows} rows, {differ} differ")?;
     Ok(())
 }

@@ -11,55 +11,33 @@ use years::days::date_of_day;
 
 // How a row compares with the calendars.
 #[derive(Clone, Copy)]
-pub enum Report {
-    Unreadable,
-    Compared {
-        row: Row,
-        gregorian_agrees: bool,
-        hebrew_agrees: bool,
-    },
+pub struct Comparison {
+    row: Row,
+    gregorian_agrees: bool,
+    hebrew_agrees: bool,
 }
 
-impl Report {
-    // The report on a row; none is an unreadable one.
-    pub(crate) fn of(row: Option<Row>) -> Report {
-        match row {
-            None => Report::Unreadable,
-            Some(row) => Report::Compared {
-                row,
-                gregorian_agrees: agrees(&Iso8601, row.day, row.gregorian),
-                hebrew_agrees: agrees(&Hebrew, row.day, row.hebrew),
-            },
+impl Comparison {
+    pub(crate) fn of(row: Row) -> Comparison {
+        Comparison {
+            row,
+            gregorian_agrees: agrees(&Iso8601, row.day, row.gregorian),
+            hebrew_agrees: agrees(&Hebrew, row.day, row.hebrew),
         }
     }
 
     // Whether both calendars agree with the row.
     pub(crate) fn is_ok(&self) -> bool {
-        match self {
-            Report::Unreadable => false,
-            Report::Compared {
-                gregorian_agrees,
-                hebrew_agrees,
-                ..
-            } => *gregorian_agrees && *hebrew_agrees,
-        }
+        self.gregorian_agrees && self.hebrew_agrees
     }
 }
 
-impl fmt::Display for Report {
+impl fmt::Display for Comparison {
     fn fmt<W: fmt::Write>(&self, f: &mut fmt::Formatter<W>) -> fmt::Result {
-        let Report::Compared {
-            row,
-            gregorian_agrees,
-            hebrew_agrees,
-        } = self
-        else {
-            return write!(f, "unreadable");
-        };
-        let day = row.day;
+        let day = self.row.day;
         let gregorian = Given(date_of_day(&Iso8601, day));
         let hebrew = Given(date_of_day(&Hebrew, day));
-        let verdict = match (*gregorian_agrees, *hebrew_agrees) {
+        let verdict = match (self.gregorian_agrees, self.hebrew_agrees) {
             (true, true) => "ok",
             (false, true) => "Gregorian differs",
             (true, false) => "Hebrew differs",
@@ -69,7 +47,7 @@ impl fmt::Display for Report {
     }
 }
 
-// The date that a calendar gives a day, if any, to be printed.
+// The date that a calendar gives a day, if any, to be printed: a type of its own, since Display can't be written for Option.
 #[derive(Clone, Copy)]
 struct Given(Option<Date>);
 
@@ -83,20 +61,13 @@ impl fmt::Display for Given {
 }
 
 // How many rows were compared, and how many of them differ.
-#[derive(Drop)]
+#[derive(Default, Drop)]
 pub struct Tally {
     pub rows: u32,
     pub differ: u32,
 }
 
 impl Tally {
-    pub(crate) fn new() -> Tally
-        ensures rows { result.rows ≡ 0 }
-        ensures differ { result.differ ≡ 0 }
-    {
-        Tally { rows: 0, differ: 0 }
-    }
-
     // Counts one more row; past the largest number the counts stay as they are.
     pub(crate) fn note(&mut self, ok: bool)
         ensures rows { self.old.rows < 4294967295 → self.new.rows ≡ self.old.rows + 1 }

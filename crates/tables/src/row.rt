@@ -1,7 +1,8 @@
 // The rows of a table: columns parted by tabs, of which the first are a day number, its Gregorian date and its Hebrew
 // date. Further columns are passed over.
-ghost use Rattle.std.specs.Prelude.{◌≡◌, ◌+◌, ◌-◌, ◌*◌, ◌%◌, ◌<◌, ◌≤◌, Some, Decides};
+ghost use Rattle.std.specs.Prelude.{◌≡◌, ◌+◌, ◌-◌, ◌*◌, ◌%◌, ◌<◌, ◌≤◌, Some};
 
+use hebrew::is_leap;
 use years::date::Date;
 
 #[derive(Clone, Copy)]
@@ -54,11 +55,4 @@ fn month_from_tishri(year: u32, month: u8) -> Option<u8>
         1..=6 => Some(month + 6),
         _ => None,
     }
-}
-
-// Whether a Hebrew year has thirteen months.
-fn is_leap(year: u32) -> bool
-    ensures { Decides result ((7 * year + 1) % 19 < 7) }
-{
-    (7 * u64::from(year) + 1) % 19 < 7
 }

@@ -7,6 +7,16 @@ pub record Shape : Type 0 where
   pub months : ℤ → ℕ
   pub size : ℤ → ℕ → ℕ
 
+-- the years of a calendar: their shape, the day number on which each starts, the first and one past the last, the date of day 1, and
+-- the month of a second year that is the twin of a month of a first
+pub record Years : Type 0 where
+  pub shape : Shape
+  pub start : ℤ → ℤ
+  pub first : ℤ
+  pub past : ℤ
+  pub origin : Date
+  pub twin : ℤ → ℕ → ℤ → ℕ
+
 pub record Valid (s : Shape) (d : Date) : Type 0 where
   pub month_low : 1 ≤ d.month
   pub month_high : d.month ≤ s.months d.year
@@ -51,9 +61,9 @@ days_in s y (suc m) = days_in s y m + s.size y (suc m)
 abbrev pub number : Shape → (ℤ → ℤ) → Date → ℤ
 number s start d = start d.year +ℤ pos (days_in s d.year (d.month - 1) + (d.day - 1))
 
--- from year lo up to year hi, each year starts where the months of the year before end
-abbrev pub Adds : Shape → (ℤ → ℤ) → ℤ → ℤ → Type 0
-Adds s start lo hi = (y : ℤ) → lo ≤ℤ y → y <ℤ hi → start (y +ℤ pos 1) ≡ start y +ℤ pos (days_in s y (s.months y))
+-- each year starts where the months of the year before end
+abbrev pub Adds : Years → Type 0
+Adds ys = (y : ℤ) → ys.first ≤ℤ y → y <ℤ ys.past → ys.start (y +ℤ pos 1) ≡ ys.start y +ℤ pos (days_in ys.shape y (ys.shape.months y))
 
 -- the month and the day of the day that comes `rest` days after the first of year y
 pub record MonthDay (s : Shape) (y : ℤ) (rest m d : ℕ) : Type 0 where

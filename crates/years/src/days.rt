@@ -12,7 +12,7 @@ pub const LAST_DAY: u32 = 3_652_059;
 
 // The date of a day number; none for a number out of range.
 pub fn date_of_day<R: YearRule>(rule: &R, day: u32) -> Option<Date>
-    ensures { DateAnswer (R.YearRule.shape rule.now) (R.YearRule.origin rule.now) day result }
+    ensures { DateAnswer (R.YearRule.years rule.now) day result }
 {
     let (number, year) = year_of_day(rule, day)?;
     let rest = days_since_start(&year, day);
@@ -26,7 +26,7 @@ pub fn date_of_day<R: YearRule>(rule: &R, day: u32) -> Option<Date>
 
 // The day number of a date; none for a date that is no day's.
 pub fn day_of_date<R: YearRule>(rule: &R, date: Date) -> Option<u32>
-    ensures { DayAnswer (R.YearRule.shape rule.now) (R.YearRule.origin rule.now) date result }
+    ensures { DayAnswer (R.YearRule.years rule.now) date result }
 {
     let year = rule.year(date.year)?;
     let into = days_into(&year, date.month, date.day)?;
@@ -35,7 +35,7 @@ pub fn day_of_date<R: YearRule>(rule: &R, date: Date) -> Option<u32>
 
 // The year in which the day lies, with its number; none for a day out of range.
 fn year_of_day<R: YearRule>(rule: &R, day: u32) -> Option<(i32, Year)>
-    ensures { PlaceAnswer (R.YearRule.shape rule.now) (R.YearRule.start rule.now) (R.YearRule.first rule.now) (R.YearRule.past rule.now) day result }
+    ensures { PlaceAnswer (R.YearRule.years rule.now) day result }
 {
     if !in_range(day) {
         return None;
@@ -55,12 +55,12 @@ fn year_of_day<R: YearRule>(rule: &R, day: u32) -> Option<(i32, Year)>
 fn in_range(day: u32) -> bool
     ensures { Decides result (InRange day) }
 {
-    day >= 1 && day <= LAST_DAY
+    (1..=LAST_DAY).contains(&day)
 }
 
 // A year of the calendar that is the day's, or one beside it.
 fn near_year<R: YearRule>(rule: &R, day: u32) -> i32
-    ensures { Beside (R.YearRule.start rule.now) (R.YearRule.first rule.now) (R.YearRule.past rule.now) day result }
+    ensures { Beside (R.YearRule.years rule.now) day result }
 {
     rule.estimate(day)
         .clamp(rule.first_year(), rule.past_year() - 1)
@@ -68,7 +68,7 @@ fn near_year<R: YearRule>(rule: &R, day: u32) -> i32
 
 // A year of the calendar, with its number.
 fn labelled<R: YearRule>(rule: &R, number: i32) -> Option<(i32, Year)>
-    ensures { LabelAnswer (R.YearRule.shape rule.now) (R.YearRule.start rule.now) (R.YearRule.first rule.now) (R.YearRule.past rule.now) number result }
+    ensures { LabelAnswer (R.YearRule.years rule.now) number result }
 {
     let year = rule.year(number)?;
     Some((number, year))
@@ -88,7 +88,8 @@ fn ends_by(year: &Year, day: u32) -> bool
     i64::from(year.start) + i64::from(year.days) <= i64::from(day)
 }
 
-// How many days after the year's start the day comes.
+// How many days after the year's start the day comes. The cast is proved to lose nothing; `try_from` would add a case
+// that cannot come.
 fn days_since_start(year: &Year, day: u32) -> u32
     requires { (year.now.start ≤ℤ pos day) × (day ≤ 3652059) }
     ensures { year.now.start +ℤ pos result ≡ pos day }
@@ -96,7 +97,8 @@ fn days_since_start(year: &Year, day: u32) -> u32
     (i64::from(day) - i64::from(year.start)) as u32
 }
 
-// The month and the day of the day that comes `rest` days after the first of the year; none past the year's end.
+// The month and the day of the day that comes `rest` days after the first of the year; none past the year's end. A loop,
+// since what is left shrinks from month to month: a chain would need `scan` and `find_map` with the same two lines.
 fn month_and_day(year: &Year, rest: u32) -> Option<(u8, u8)>
     ensures { MonthAnswer year.now rest result }
 {
@@ -116,36 +118,29 @@ fn days_into(year: &Year, month: u8, day: u8) -> Option<u32>
     requires { year.now.months ≤ 14 }
     ensures { IntoAnswer year.now month day result }
 {
-    if month < 1 || month > year.months {
+    let length = year.length_of(month)?;
+    if !(1..=length).contains(&day) {
         return None;
     }
-    let before = usize::from(month) - 1;
-    if day < 1 || day > year.lengths[before] {
-        return None;
-    }
-    Some(days_of_months(year, before) + u32::from(day) - 1)
+    Some(days_of_months(year, usize::from(month) - 1) + u32::from(day) - 1)
 }
 
 // The days of the year's first months.
 fn days_of_months(year: &Year, months: usize) -> u32
     requires { months ≤ 14 }
     ensures is { result ≡ first_days year.now months }
-    ensures few { result ≤ 255 * months }
+    ensures few { result ≤ 3570 }
 {
-    let mut days = 0;
-    for length in &year.lengths[..months] {
-        days += u32::from(*length);
-    }
-    days
+    year.lengths[..months]
+        .iter()
+        .map(|length| u32::from(*length))
+        .sum()
 }
 
 // The day number that comes `into` days after a year's start; none where it is out of range.
 fn numbered(start: i32, into: u32) -> Option<u32>
     ensures { NumberAnswer (start +ℤ pos into) result }
 {
-    let number = i64::from(start) + i64::from(into);
-    if number < 1 || number > i64::from(LAST_DAY) {
-        return None;
-    }
-    Some(number as u32)
+    let number = u32::try_from(i64::from(start) + i64::from(into)).ok()?;
+    in_range(number).then_some(number)
 }

@@ -14,12 +14,12 @@ days_since_start-rest-requires g c =
 pub returns-in_err-month : goal.returns-in_err-month
 returns-in_err-month g c =
     let a = c.in_ok-number.ensures in
-    not_dateless _ _ _ _ _ (g.met.R.YearRule.fitting c.args.rule.now) c.args.day c.days_since_start-rest.result c.in_ok-number.number c.in_ok-number.year
+    not_dateless _ (g.met.R.YearRule.lawful c.args.rule.now).fitting c.args.day c.days_since_start-rest.result c.in_ok-number.number c.in_ok-number.year
     a.0 a.1 a.2 c.days_since_start-rest.ensures c.in_err-month.ensures _ c.from_residual-in_err-month.ensures
 
 pub returns : goal.returns
 returns g c =
     let fy : SFits w32 c.in_ok-number.number = search rules in
     let a = c.in_ok-number.ensures in
-    dated _ _ _ _ _ (g.met.R.YearRule.fitting c.args.rule.now) c.args.day c.days_since_start-rest.result c.in_ok-number.number c.in_ok-number.year
+    dated _ (g.met.R.YearRule.lawful c.args.rule.now).fitting c.args.day c.days_since_start-rest.result c.in_ok-number.number c.in_ok-number.year
     a.0 a.1 a.2 c.days_since_start-rest.ensures c.in_ok-month.month c.in_ok-month.day _ (to_z-of_z w32 _ fy) c.in_ok-month.ensures

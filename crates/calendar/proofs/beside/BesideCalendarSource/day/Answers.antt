@@ -1,12 +1,24 @@
 use Rattle.std.proofs.Common.{◌∙◌}
-use Rattle.calendar.specs.Joins.{first_at, second_at, neither_at}
+use Rattle.calendar.specs.Joining.{joined}
+use Rattle.calendar.proofs.Questions.{found_first, found_second, found_nowhere, day_same, day_nowhere}
 use Rattle.calendar.proofs.beside.BesideCalendarSource.day.Goals as goal
 
 pub returns-in-First : goal.returns-in-First
-returns-in-First g c = c.day.ensures ∙ first_at (g.P.CalendarSource.calendars c.args.self.now.first) (g.Q.CalendarSource.calendars c.args.self.now.second) (λ c'. c'.number c.args.date) c.args.calendar c.in-First.k c.in-First.ensures
+returns-in-First g c =
+    let a = g.P.CalendarSource.calendars c.args.self.now.first in
+    let b = g.Q.CalendarSource.calendars c.args.self.now.second in
+    let same = found_first a b c.args.calendar c.in-First.k _ _ c.place_in.ensures c.in_ok-k.was c.in-First.is in
+    c.day.ensures ∙ day_same a (joined a b) c.in-First.k c.args.calendar same c.args.date
 
 pub returns-in-Second : goal.returns-in-Second
-returns-in-Second g c = c.day-in-Second.ensures ∙ second_at (g.P.CalendarSource.calendars c.args.self.now.first) (g.Q.CalendarSource.calendars c.args.self.now.second) (λ c'. c'.number c.args.date) c.args.calendar c.in-Second.k c.in-Second.ensures
+returns-in-Second g c =
+    let a = g.P.CalendarSource.calendars c.args.self.now.first in
+    let b = g.Q.CalendarSource.calendars c.args.self.now.second in
+    let same = found_second a b c.args.calendar c.in-Second.k _ _ c.place_in.ensures c.in_ok-k.was c.in-Second.is in
+    c.day-in-Second.ensures ∙ day_same b (joined a b) c.in-Second.k c.args.calendar same c.args.date
 
-pub returns-in-Neither : goal.returns-in-Neither
-returns-in-Neither g c = neither_at (g.P.CalendarSource.calendars c.args.self.now.first) (g.Q.CalendarSource.calendars c.args.self.now.second) (λ c'. c'.number c.args.date) c.args.calendar c.in-Neither.ensures
+pub returns-in_err-k : goal.returns-in_err-k
+returns-in_err-k g c =
+    let a = g.P.CalendarSource.calendars c.args.self.now.first in
+    let b = g.Q.CalendarSource.calendars c.args.self.now.second in
+    c.from_residual.ensures ∙ day_nowhere (joined a b) c.args.calendar (found_nowhere a b c.args.calendar _ c.place_in.ensures c.in_err-k.was) c.args.date

@@ -1,14 +1,24 @@
 use Rattle.std.proofs.Common.{true, ◌∙◌}
-use Rattle.calendar.specs.Joins.{first_asked, second_asked, neither_asked}
+use Rattle.calendar.specs.Joining.{joined}
+use Rattle.calendar.proofs.Questions.{found_first, found_second, found_nowhere, asked_same, asked_nowhere}
 use Rattle.calendar.proofs.beside.BesideCalendarSource.last_year.Goals as goal
 
 pub returns-in-First : goal.returns-in-First
 returns-in-First g c =
-    c.last_year.ensures ∙ first_asked (g.P.CalendarSource.calendars c.args.self.now.first) (g.Q.CalendarSource.calendars c.args.self.now.second) (λ _. true) (λ c'. c'.last) c.args.calendar c.in-First.k c.in-First.ensures
+    let a = g.P.CalendarSource.calendars c.args.self.now.first in
+    let b = g.Q.CalendarSource.calendars c.args.self.now.second in
+    let same = found_first a b c.args.calendar c.in-First.k _ _ c.place_in.ensures c.in_ok-k.was c.in-First.is in
+    c.last_year.ensures ∙ asked_same a (joined a b) c.in-First.k c.args.calendar same (λ _. true) (λ c'. c'.last)
 
 pub returns-in-Second : goal.returns-in-Second
 returns-in-Second g c =
-    c.last_year-in-Second.ensures ∙ second_asked (g.P.CalendarSource.calendars c.args.self.now.first) (g.Q.CalendarSource.calendars c.args.self.now.second) (λ _. true) (λ c'. c'.last) c.args.calendar c.in-Second.k c.in-Second.ensures
+    let a = g.P.CalendarSource.calendars c.args.self.now.first in
+    let b = g.Q.CalendarSource.calendars c.args.self.now.second in
+    let same = found_second a b c.args.calendar c.in-Second.k _ _ c.place_in.ensures c.in_ok-k.was c.in-Second.is in
+    c.last_year-in-Second.ensures ∙ asked_same b (joined a b) c.in-Second.k c.args.calendar same (λ _. true) (λ c'. c'.last)
 
-pub returns-in-Neither : goal.returns-in-Neither
-returns-in-Neither g c = neither_asked (g.P.CalendarSource.calendars c.args.self.now.first) (g.Q.CalendarSource.calendars c.args.self.now.second) (λ _. true) (λ c'. c'.last) c.args.calendar c.in-Neither.ensures
+pub returns-in_err-k : goal.returns-in_err-k
+returns-in_err-k g c =
+    let a = g.P.CalendarSource.calendars c.args.self.now.first in
+    let b = g.Q.CalendarSource.calendars c.args.self.now.second in
+    c.from_residual.ensures ∙ asked_nowhere (joined a b) c.args.calendar (found_nowhere a b c.args.calendar _ c.place_in.ensures c.in_err-k.was) (λ _. true) (λ c'. c'.last)

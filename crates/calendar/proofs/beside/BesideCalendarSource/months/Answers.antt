@@ -1,18 +1,28 @@
 use Rattle.std.proofs.Common.{◌∙◌}
-use Rattle.calendar.specs.Calendars.{year_there}
 use Rattle.std.proofs.lemmas.Int.{to_z-of_z}
-use Rattle.calendar.specs.Joins.{first_asked, second_asked, neither_asked}
+use Rattle.calendar.specs.Calendars.{year_there}
+use Rattle.calendar.specs.Joining.{joined}
+use Rattle.calendar.proofs.Questions.{found_first, found_second, found_nowhere, asked_same, asked_nowhere}
 use Rattle.calendar.proofs.beside.BesideCalendarSource.months.Goals as goal
 
 pub returns-in-First : goal.returns-in-First
 returns-in-First g c =
+    let a = g.P.CalendarSource.calendars c.args.self.now.first in
+    let b = g.Q.CalendarSource.calendars c.args.self.now.second in
+    let same = found_first a b c.args.calendar c.in-First.k _ _ c.place_in.ensures c.in_ok-k.was c.in-First.is in
     let fyear = c.ranges.year in
-    simp to_z-of_z at c.months.ensures ∙ first_asked (g.P.CalendarSource.calendars c.args.self.now.first) (g.Q.CalendarSource.calendars c.args.self.now.second) (λ c'. year_there c' c.args.year) (λ c'. c'.months c.args.year) c.args.calendar c.in-First.k c.in-First.ensures
+    simp to_z-of_z at c.months.ensures ∙ asked_same a (joined a b) c.in-First.k c.args.calendar same (λ c'. year_there c' c.args.year) (λ c'. c'.months c.args.year)
 
 pub returns-in-Second : goal.returns-in-Second
 returns-in-Second g c =
+    let a = g.P.CalendarSource.calendars c.args.self.now.first in
+    let b = g.Q.CalendarSource.calendars c.args.self.now.second in
+    let same = found_second a b c.args.calendar c.in-Second.k _ _ c.place_in.ensures c.in_ok-k.was c.in-Second.is in
     let fyear = c.ranges.year in
-    simp to_z-of_z at c.months-in-Second.ensures ∙ second_asked (g.P.CalendarSource.calendars c.args.self.now.first) (g.Q.CalendarSource.calendars c.args.self.now.second) (λ c'. year_there c' c.args.year) (λ c'. c'.months c.args.year) c.args.calendar c.in-Second.k c.in-Second.ensures
+    simp to_z-of_z at c.months-in-Second.ensures ∙ asked_same b (joined a b) c.in-Second.k c.args.calendar same (λ c'. year_there c' c.args.year) (λ c'. c'.months c.args.year)
 
-pub returns-in-Neither : goal.returns-in-Neither
-returns-in-Neither g c = neither_asked (g.P.CalendarSource.calendars c.args.self.now.first) (g.Q.CalendarSource.calendars c.args.self.now.second) (λ c'. year_there c' c.args.year) (λ c'. c'.months c.args.year) c.args.calendar c.in-Neither.ensures
+pub returns-in_err-k : goal.returns-in_err-k
+returns-in_err-k g c =
+    let a = g.P.CalendarSource.calendars c.args.self.now.first in
+    let b = g.Q.CalendarSource.calendars c.args.self.now.second in
+    c.from_residual.ensures ∙ asked_nowhere (joined a b) c.args.calendar (found_nowhere a b c.args.calendar _ c.place_in.ensures c.in_err-k.was) (λ c'. year_there c' c.args.year) (λ c'. c'.months c.args.year)

@@ -1,16 +1,14 @@
-use Rattle.std.proofs.Common.{◌<◌, ◌≤◌, ◌&&◌, leb, ◌∙◌, arith}
+use Rattle.std.proofs.Common.{◌&&◌, leb, ◌∙◌}
 use Rattle.calendar.specs.Calendars.{last_day}
 use Rattle.calendar.specs.Namings.{name_of}
-use Rattle.calendar.specs.Singles.{single_count}
-use Rattle.calendar.specs.SingleLaws.{none_one, some_one}
+use Rattle.calendar.specs.SingleLaws.{none_one, some_one, date_is}
 use Rattle.calendar.proofs.single.SingleCalendarSource.date.Goals as goal
 
-pub returns-then-calendar-count_of : goal.returns-then-calendar-count_of
-returns-then-calendar-count_of g c =
-    let out : single_count (name_of c.args.self.now.name) ≤ c.args.calendar = omega (arith, c.count_of.ensures, c.if-calendar-count_of.true) in
-    none_one (g.R.YearRule.shape c.args.self.now.rule) (g.R.YearRule.start c.args.self.now.rule) (g.R.YearRule.first c.args.self.now.rule) (g.R.YearRule.past c.args.self.now.rule) (g.R.YearRule.origin c.args.self.now.rule) (g.R.YearRule.twin c.args.self.now.rule) (name_of c.args.self.now.name) c.args.calendar (λ _. leb 1 c.args.day && leb c.args.day last_day) (λ c'. c'.date c.args.day) out
+pub returns-in_err-rule_of : goal.returns-in_err-rule_of
+returns-in_err-rule_of g c = c.from_residual.ensures ∙ none_one (g.R.YearRule.years c.args.self.now.rule) (name_of c.args.self.now.name) c.args.calendar (λ _. leb 1 c.args.day && leb c.args.day last_day) (λ c'. c'.date c.args.day) c.in_err-rule_of.ensures
 
 pub returns : goal.returns
 returns g c =
-    let there : c.args.calendar < single_count (name_of c.args.self.now.name) = omega (arith, c.count_of.ensures, c.if-calendar-count_of.false) in
-    c.date_of.ensures ∙ some_one (g.R.YearRule.shape c.args.self.now.rule) (g.R.YearRule.start c.args.self.now.rule) (g.R.YearRule.first c.args.self.now.rule) (g.R.YearRule.past c.args.self.now.rule) (g.R.YearRule.origin c.args.self.now.rule) (g.R.YearRule.twin c.args.self.now.rule) (name_of c.args.self.now.name) c.args.calendar (λ _. leb 1 c.args.day && leb c.args.day last_day) (λ c'. c'.date c.args.day) there
+    let rule = c.in_ok-rule_of.ensures in
+    date_is (g.R.YearRule.years c.args.self.now.rule) (g.met.R.YearRule.lawful c.args.self.now.rule) c.args.day _ (rw rule.1 at c.date_of_day.ensures)
+    ∙ some_one (g.R.YearRule.years c.args.self.now.rule) (name_of c.args.self.now.name) c.args.calendar (λ _. leb 1 c.args.day && leb c.args.day last_day) (λ c'. c'.date c.args.day) rule.0

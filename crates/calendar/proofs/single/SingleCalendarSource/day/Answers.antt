@@ -1,15 +1,13 @@
-use Rattle.std.proofs.Common.{◌<◌, ◌≤◌, ◌∙◌, arith}
+use Rattle.std.proofs.Common.{◌∙◌}
 use Rattle.calendar.specs.Namings.{name_of}
-use Rattle.calendar.specs.Singles.{single_count}
-use Rattle.calendar.specs.SingleLaws.{none_day, some_day}
+use Rattle.calendar.specs.SingleLaws.{none_day, some_day, day_is}
 use Rattle.calendar.proofs.single.SingleCalendarSource.day.Goals as goal
 
-pub returns-then-calendar-count_of : goal.returns-then-calendar-count_of
-returns-then-calendar-count_of g c =
-    let out : single_count (name_of c.args.self.now.name) ≤ c.args.calendar = omega (arith, c.count_of.ensures, c.if-calendar-count_of.true) in
-    none_day (g.R.YearRule.shape c.args.self.now.rule) (g.R.YearRule.start c.args.self.now.rule) (g.R.YearRule.first c.args.self.now.rule) (g.R.YearRule.past c.args.self.now.rule) (g.R.YearRule.origin c.args.self.now.rule) (g.R.YearRule.twin c.args.self.now.rule) (name_of c.args.self.now.name) c.args.calendar c.args.date out
+pub returns-in_err-rule_of : goal.returns-in_err-rule_of
+returns-in_err-rule_of g c = c.from_residual.ensures ∙ none_day (g.R.YearRule.years c.args.self.now.rule) (name_of c.args.self.now.name) c.args.calendar c.args.date c.in_err-rule_of.ensures
 
 pub returns : goal.returns
 returns g c =
-    let there : c.args.calendar < single_count (name_of c.args.self.now.name) = omega (arith, c.count_of.ensures, c.if-calendar-count_of.false) in
-    c.day_of.ensures ∙ some_day (g.R.YearRule.shape c.args.self.now.rule) (g.R.YearRule.start c.args.self.now.rule) (g.R.YearRule.first c.args.self.now.rule) (g.R.YearRule.past c.args.self.now.rule) (g.R.YearRule.origin c.args.self.now.rule) (g.R.YearRule.twin c.args.self.now.rule) (name_of c.args.self.now.name) c.args.calendar c.args.date there
+    let rule = c.in_ok-rule_of.ensures in
+    day_is (g.R.YearRule.years c.args.self.now.rule) (g.met.R.YearRule.lawful c.args.self.now.rule) c.args.date _ (rw rule.1 at c.day_of_date.ensures)
+    ∙ some_day (g.R.YearRule.years c.args.self.now.rule) (name_of c.args.self.now.name) c.args.calendar c.args.date rule.0

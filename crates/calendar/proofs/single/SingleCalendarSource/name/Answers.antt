@@ -3,8 +3,10 @@ use Rattle.calendar.specs.Namings.{name_of}
 use Rattle.calendar.specs.SingleLaws.{count_is, name_is}
 use Rattle.calendar.proofs.single.SingleCalendarSource.name.Goals as goal
 
-pub returns-then-calendar-count_of : goal.returns-then-calendar-count_of
-returns-then-calendar-count_of g c = omega (arith, c.count_of.ensures, c.if-calendar-count_of.true, count_is (g.R.YearRule.shape c.args.self.now.rule) (g.R.YearRule.start c.args.self.now.rule) (g.R.YearRule.first c.args.self.now.rule) (g.R.YearRule.past c.args.self.now.rule) (g.R.YearRule.origin c.args.self.now.rule) (g.R.YearRule.twin c.args.self.now.rule) (name_of c.args.self.now.name) 0)
+pub returns-in_err-_there : goal.returns-in_err-_there
+returns-in_err-_there g c = rw c.from_residual.ensures (omega (arith, c.in_err-_there.ensures, count_is (g.R.YearRule.years c.args.self.now.rule) (name_of c.args.self.now.name) 0))
 
 pub returns : goal.returns
-returns g c = (omega (arith, c.count_of.ensures, c.if-calendar-count_of.false, count_is (g.R.YearRule.shape c.args.self.now.rule) (g.R.YearRule.start c.args.self.now.rule) (g.R.YearRule.first c.args.self.now.rule) (g.R.YearRule.past c.args.self.now.rule) (g.R.YearRule.origin c.args.self.now.rule) (g.R.YearRule.twin c.args.self.now.rule) (name_of c.args.self.now.name) 0), c.bytes.ensures ∙ sym (name_is (g.R.YearRule.shape c.args.self.now.rule) (g.R.YearRule.start c.args.self.now.rule) (g.R.YearRule.first c.args.self.now.rule) (g.R.YearRule.past c.args.self.now.rule) (g.R.YearRule.origin c.args.self.now.rule) (g.R.YearRule.twin c.args.self.now.rule) (name_of c.args.self.now.name) c.args.calendar))
+returns g c =
+    let rule = c.in_ok-_there.ensures in
+    (omega (arith, rule.0, count_is (g.R.YearRule.years c.args.self.now.rule) (name_of c.args.self.now.name) 0), c.bytes.ensures ∙ sym (name_is (g.R.YearRule.years c.args.self.now.rule) (name_of c.args.self.now.name) c.args.calendar))

@@ -1,0 +1,60 @@
+-- Of two tables side by side, a question goes to the table that has the number.
+use Rattle.std.proofs.Common.{◌≡◌, ℕ, ◌<◌, ◌≤◌, Bool, cond, ltb, ◌&&◌, List, Some, None, Option, sym, ap, ◌∙◌, subst, arith, Bor}
+use Rattle.std.proofs.lemmas.Bool.{lt-ltb, le-ltb}
+use Rattle.years.specs.declared.date.Date.{Date}
+use Rattle.side_by_side.specs.declared.Place.{Place}
+use Rattle.side_by_side.specs.declared.Place.TheVariants.{First, Second}
+use Rattle.side_by_side.specs.Places.{place_of}
+use Rattle.side_by_side.proofs.Placed.{low_count, second_there, first_is, second_is, nowhere_is}
+use Rattle.calendar.specs.Calendars.{Calendar, Calendars, asked, day_of, NameIs}
+use Rattle.calendar.specs.Joining.{joined}
+use Rattle.calendar.specs.Joins.{counted, first_name, second_name, first_calendar, second_calendar}
+
+-- number j of one table means what number i of the other means
+pub record SameAt (y z : Calendars) (j i : ℕ) : Type 0 where
+  pub there : j < y.count
+  pub here : i < z.count
+  pub name : z.name i ≡ y.name j
+  pub calendar : z.calendar i ≡ y.calendar j
+
+-- ── which table has the number, seen as the code finds it ──
+
+module _ (a b : Calendars) (k : ℕ) where
+  pub found_first : (j : ℕ) (p : Place) (r : Option Place) → r ≡ place_of a.count b.count k → r ≡ Some p → p ≡ First j → SameAt a (joined a b) j k
+  found_first j p r e o f =
+      let at = first_is a.count b.count k j (cc) in
+      let l = low_count a.count b.count in
+      subst (λ (n : ℕ). SameAt a (joined a b) n k) (sym at.0) (record { there = at.1; here = omega (arith, counted a b, at.1); name = first_name a b k at.1; calendar = first_calendar a b k at.1 })
+
+  pub found_second : (j : ℕ) (p : Place) (r : Option Place) → r ≡ place_of a.count b.count k → r ≡ Some p → p ≡ Second j → SameAt b (joined a b) j k
+  found_second j p r e o f =
+      let at = second_is a.count b.count k j (cc) in
+      subst (λ (n : ℕ). SameAt b (joined a b) n k) (sym at.0)
+      (record { there = second_there a.count b.count k at.1 at.2; here = omega (arith, counted a b, at.2); name = second_name a b k at.1; calendar = second_calendar a b k at.1 })
+
+  pub found_nowhere : (r : Option Place) → r ≡ place_of a.count b.count k → r ≡ None → (joined a b).count ≤ k
+  found_nowhere r e o = let out = nowhere_is a.count b.count k (cc) in omega (arith, counted a b, out)
+
+-- ── answers ──
+
+module _ (y z : Calendars) (j i : ℕ) (same : SameAt y z j i) where
+  pub asked_same : {X : Type 0} (there : Calendar → Bool) (answer : Calendar → X) → asked y j there answer ≡ asked z i there answer
+  asked_same there answer =
+      ap (λ t. cond (t && there (y.calendar j)) (Some (answer (y.calendar j))) None) (lt-ltb j y.count same.there ∙ sym (lt-ltb i z.count same.here))
+      ∙ ap (λ c. cond (ltb i z.count && there c) (Some (answer c)) None) (sym same.calendar)
+
+  pub day_same : (d : Date) → day_of y j d ≡ day_of z i d
+  day_same d =
+      ap (λ t. cond t ((y.calendar j).number d) None) (lt-ltb j y.count same.there ∙ sym (lt-ltb i z.count same.here))
+      ∙ ap (λ (c : Calendar). cond (ltb i z.count) (c.number d) None) (sym same.calendar)
+
+  pub name_same : (r : Option (Bor (List ℕ))) → NameIs y j r → NameIs z i r
+  name_same None n = let t = same.there in absurd (omega arith)
+  name_same (Some x) n = (same.here, n.1 ∙ sym same.name)
+
+module _ (z : Calendars) (i : ℕ) (out : z.count ≤ i) where
+  pub asked_nowhere : {X : Type 0} (there : Calendar → Bool) (answer : Calendar → X) → None ≡ asked z i there answer
+  asked_nowhere there answer = sym (ap (λ t. cond (t && there (z.calendar i)) (Some (answer (z.calendar i))) None) (le-ltb i z.count out))
+
+  pub day_nowhere : (d : Date) → None ≡ day_of z i d
+  day_nowhere d = sym (ap (λ t. cond t ((z.calendar i).number d) None) (le-ltb i z.count out))
