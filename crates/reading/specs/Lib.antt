@@ -1,3 +1,4 @@
 pub mod Digits
+pub mod Lines
 pub mod Places
 pub mod Reading

@@ -1,7 +1,8 @@
 // Reading a text byte by byte, and where a text that doesn't read goes wrong.
 #![tactic(auto)]
 
-ghost use Rattle.std.specs.Prelude.{◌≡◌, ℕ, length, Option as Maybe};
+ghost use Rattle.std.specs.Prelude.{◌≡◌, ◌≤◌, ℕ, length, Option as Maybe};
+ghost use Rattle.reading.specs.Lines.{line_length};
 ghost use Rattle.reading.specs.Reading.{read_on, limited};
 ghost use Rattle.timebase.specs.declared.fault.Fault.TheVariants.{Unreadable};
 
@@ -70,4 +71,12 @@ pub fn read_within<S: Scan>(start: S, text: &[u8], limit: usize) -> Result<S::Va
     ensures { result ≡ limited limit (length text.now) (read_on S.Scan.stepped S.Scan.ended start 0 text.now) }
 {
     within_limit(read(start, text), text.len(), limit)
+}
+
+// How many bytes of a text stand before its first newline, or in all where it has none.
+pub fn line_length(text: &[u8]) -> usize
+    ensures value { result ≡ line_length text.now }
+    ensures within { result ≤ length text.now }
+{
+    text.iter().position(|b| *b == b'\n').unwrap_or(text.len())
 }

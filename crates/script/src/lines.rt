@@ -1,16 +1,9 @@
 // Cutting a text into lines.
-ghost use Rattle.std.specs.Prelude.{◌≡◌, ◌≤◌, [], ◌∷◌, length, MatchOption};
+ghost use Rattle.std.specs.Prelude.{◌≡◌, [], ◌∷◌, MatchOption};
 ghost use Rattle.std.specs.Iterator.{YieldsFirstBy, item_count};
-ghost use Rattle.script.specs.Cutting.{line_length};
 ghost use Rattle.script.specs.Scripts.{lines_of};
 
-// How many bytes stand before the first newline, or in all where there is none.
-fn line_length(text: &[u8]) -> usize
-    ensures value { result ≡ line_length text.now }
-    ensures within { result ≤ length text.now }
-{
-    text.iter().position(|b| *b == b'\n').unwrap_or(text.len())
-}
+use reading::line_length;
 
 // The first line of a text, and the text after it; none where nothing is left.
 fn next_line(text: &[u8]) -> Option<(&[u8], &[u8])>

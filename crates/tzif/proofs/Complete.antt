@@ -7,7 +7,8 @@ use Rattle.std.proofs.lemmas.Bool.{le-leb, ne_eqb, and_from, or_right}
 use Rattle.std.specs.List.{AllByRecursion}
 use Rattle.tzif.specs.declared.layout.Layout.{Layout}
 use Rattle.tzif.specs.Fields.{byte_at, second8, Field, is_within, each}
-use Rattle.tzif.specs.File.{times, types, others, second_header, rising_at, index_at, type_at, second_block, line_length, footer, header_place, footer_place}
+use Rattle.reading.specs.Lines.{line_length}
+use Rattle.tzif.specs.File.{times, types, others, second_header, rising_at, index_at, type_at, second_block, footer, header_place, footer_place}
 use Rattle.tzif.specs.Good.{Headers, Block, Footer, GoodFile}
 use Rattle.tzif.specs.Places.{Sound, AllSound}
 use Rattle.tzif.proofs.Judging.{each_from}

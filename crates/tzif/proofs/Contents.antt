@@ -7,7 +7,8 @@ use Rattle.std.proofs.lemmas.List.{nil_from_length}
 use Rattle.std.specs.List.{AllByRecursion}
 use Rattle.tzif.specs.declared.layout.Layout.{Layout}
 use Rattle.tzif.specs.Fields.{byte_at, number4, second8, Field, is_within, each}
-use Rattle.tzif.specs.File.{magic, times, types, others, second_header, rising_at, index_at, type_at, second_block, line_length, footer, footer_place, header_place, layout_at}
+use Rattle.reading.specs.Lines.{line_length}
+use Rattle.tzif.specs.File.{magic, times, types, others, second_header, rising_at, index_at, type_at, second_block, footer, footer_place, header_place, layout_at}
 use Rattle.tzif.specs.Good.{Headers, Block, Footer, GoodFile}
 use Rattle.tzif.specs.Places.{Sound, AllSound}
 use Rattle.tzif.proofs.Judging.{all_parts, each_parts}

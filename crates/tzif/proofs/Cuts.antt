@@ -8,7 +8,8 @@ use Rattle.std.specs.List.{AllZip, AllByRecursion}
 use Rattle.timebase.specs.declared.fault.Fault.TheVariants.{BadFile}
 use Rattle.zone.specs.Offsets.{is_offset}
 use Rattle.tzif.specs.Fields.{byte_at, number4, Field, anything, byte_in, number_in, is_within, each, wrong_at, first_wrong}
-use Rattle.tzif.specs.File.{magic, times, types, others, first_block, second_header, rising_at, index_at, type_at, second_block, line_length, last_line, footer, footer_place, second_half, header_place, fields_of, layout_at, refused, answer, checked}
+use Rattle.reading.specs.Lines.{line_length}
+use Rattle.tzif.specs.File.{magic, times, types, others, first_block, second_header, rising_at, index_at, type_at, second_block, last_line, footer, footer_place, second_half, header_place, fields_of, layout_at, refused, answer, checked}
 use Rattle.tzif.specs.Places.{Sound, CutsAreTold}
 use Rattle.tzif.proofs.Judging.{first_append, sound_all}
 use Rattle.tzif.proofs.Parts.{byte_part, number_part, offset_part, second_part}

@@ -1,13 +1,11 @@
 -- How lists of fields are judged.
-use Rattle.std.proofs.Common.{◌≡◌, ℕ, zero, suc, ◌+◌, ◌-◌, ◌<◌, ◌≤◌, Bool, true, false, not, eqb, leb, ◌⊎◌, List, [], ◌∷◌, ◌++◌, length, Some, None, Option, sym, refl, ap, ◌∙◌, inl, inr, add-one, arith}
-use Rattle.std.specs.Option.{option_or as or_else, unwrap_or}
-use Rattle.std.specs.List.{AllByRecursion, position, position_or_len}
-use Rattle.std.proofs.lemmas.List.Recursion.{is_position_or_len}
-use Rattle.std.proofs.lemmas.List.Sums.{prefix_len-le-length}
+use Rattle.std.proofs.Common.{◌≡◌, ℕ, zero, suc, ◌+◌, ◌-◌, ◌<◌, ◌≤◌, Bool, true, false, leb, ◌⊎◌, List, [], ◌∷◌, ◌++◌, length, Some, None, Option, sym, refl, ap, ◌∙◌, inl, inr, add-one, arith}
+use Rattle.std.specs.Option.{option_or as or_else}
+use Rattle.std.specs.List.{AllByRecursion}
 use Rattle.std.proofs.ByRecursion.{All-append}
-use Rattle.std.proofs.lemmas.Bool.{leb-true, leb-false, le-leb, lt-ltb, le-ltb, cases_lt}
+use Rattle.std.proofs.lemmas.Bool.{leb-true, leb-false, le-leb, cases_lt}
 use Rattle.tzif.specs.Fields.{Field, each, wrong_at, first_wrong}
-use Rattle.tzif.specs.File.{times, types, others, second_header, second_block, line_length, footer, footer_place, second_half}
+use Rattle.tzif.specs.File.{times, types, others, second_header, second_block, footer, footer_place, second_half}
 use Rattle.tzif.specs.Places.{Sound, Wrong, FirstWrong}
 
 pub or_none : (o : Option ℕ) → o ≡ or_else o None
@@ -42,18 +40,6 @@ module _ (f : List ℕ) (fields : ℕ → List Field) (n k : ℕ) (more : k < n)
 
   pub each_stop : {p : ℕ} → Some p ≡ first_wrong f (fields k) → first_wrong f (each fields k (n - k)) ≡ Some p
   each_stop e = rw (left n k more, first_append f (fields k) (each fields (suc k) (n - (k + 1))), ← e)
-
--- the length of a line is the place of its newline
-line_is : (bs : List ℕ) → line_length bs ≡ position_or_len (λ b. eqb b 10) bs
-line_is bs = is_position_or_len line_length (λ b. eqb b 10) refl (λ b bs. grind arith) bs
-
-pub line_found : (bs : List ℕ) → unwrap_or (position (λ b. eqb b 10) bs) (length bs) ≡ line_length bs
-line_found bs =
-    let e = line_is bs in
-    elim (cases_lt (position_or_len (λ b. eqb b 10) bs) (length bs)) [
-      | inl h ↦ rw (lt-ltb _ _ h) (sym e)
-      | inr h ↦ let most = prefix_len-le-length (λ b. not (eqb b 10)) bs in rw (le-ltb _ _ h) (omega arith)
-    ]
 
 -- ── what a judgement says ──
 

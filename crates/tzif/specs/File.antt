@@ -1,7 +1,8 @@
 -- The fields of a file in file order, and the check of a file by them.
-use Rattle.std.specs.Prelude.{ℕ, suc, ◌+◌, ◌-◌, ◌*◌, min, cond, ◌||◌, List, [], ◌∷◌, ◌++◌, length, drop, Some, None, Ok, Err, Option, Result, ◌==◌, int_lt, nat_le, nat_lt}
+use Rattle.std.specs.Prelude.{ℕ, ◌+◌, ◌-◌, ◌*◌, min, cond, ◌||◌, List, [], ◌∷◌, ◌++◌, length, drop, Some, None, Ok, Err, Option, Result, ◌==◌, int_lt, nat_le, nat_lt}
 use Rattle.timebase.specs.declared.fault.Fault.{Fault}
 use Rattle.timebase.specs.declared.fault.Fault.TheVariants.{BadFile}
+use Rattle.reading.specs.Lines.{line_length}
 use Rattle.zone.specs.Offsets.{is_offset}
 use Rattle.tzif.specs.declared.layout.Layout.{Layout}
 use Rattle.tzif.specs.Fields.{byte_at, number4, offset4, second8, Field, anything, byte_in, number_in, each, first_wrong}
@@ -72,11 +73,6 @@ second_block f b n m o =
     ++ each (index_at f (b + 8 * n) m) 0 n
     ++ each (type_at f (b + 9 * n)) 0 m
     ++ anything (b + 9 * n + 6 * m) o ∷ []
-
--- how many bytes stand before the first newline, or at all
-abbrev pub line_length : List ℕ → ℕ
-line_length [] = 0
-line_length (b ∷ bs) = cond (b == 10) 0 (suc (line_length bs))
 
 -- the last bytes of a file: a line of n bytes at place t, its newline, and no more
 abbrev pub last_line : List ℕ → ℕ → ℕ → List Field

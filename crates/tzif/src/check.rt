@@ -6,12 +6,13 @@
 // over, and only its magic number and version are judged.
 ghost use Rattle.std.specs.Prelude.{◌≡◌, ℕ, List, Result, ◌<◌, ◌+◌, ◌*◌, ◌^◌, ◌≤◌, length, drop, IfOk, OnOk};
 ghost use Rattle.tzif.specs.Fields.{Field, each as fields_of_each, first_wrong, wrong_place};
-ghost use Rattle.tzif.specs.File.{times as times_of, types as types_of, others as others_of, first_block, second_header, rising_at, type_at, second_block, line_length, footer as footer_of, second_half, header_place, layout_at, fields_of, refused, checked};
+ghost use Rattle.tzif.specs.File.{times as times_of, types as types_of, others as others_of, first_block, second_header, rising_at, type_at, second_block, footer as footer_of, second_half, header_place, layout_at, fields_of, refused, checked};
 ghost use Rattle.tzif.specs.Good.{Judged};
 ghost use Rattle.tzif.specs.Places.{Placed, CutsAreTold};
 
-use crate::field::{WrongAt, byte_in, number, number_in, offset, second, skip};
+use crate::field::{WrongAt, byte_in, count, number, number_in, offset, second, skip};
 use crate::layout::{Counts, Layout};
+use reading::line_length;
 use timebase::fault::Fault;
 use zone::offset::is_offset;
 
@@ -35,9 +36,9 @@ fn others(file: &[u8], at: usize) -> usize
     ensures value { result ≡ others_of file.now at }
     ensures few { result < 2 ^ 34 }
 {
-    let isuts = number(file, at + 20) as usize;
-    let isstds = number(file, at + 24) as usize;
-    let chars = number(file, at + 40) as usize;
+    let isuts = count(file, at + 20);
+    let isstds = count(file, at + 24);
+    let chars = count(file, at + 40);
     chars + isstds + isuts
 }
 
@@ -46,9 +47,9 @@ fn first_block(file: &[u8]) -> usize
     requires { 44 ≤ length file.now }
     ensures { result ≡ first_block file.now }
 {
-    let leaps = number(file, 28) as usize;
-    let times = number(file, 32) as usize;
-    let types = number(file, 36) as usize;
+    let leaps = count(file, 28);
+    let times = count(file, 32);
+    let types = count(file, 36);
     times * 5 + types * 6 + leaps * 8 + others(file, 0)
 }
 
@@ -127,16 +128,6 @@ fn second_block(file: &[u8], block: usize, counts: Counts) -> Result<usize, Wron
     each(times, |k| byte_in(file, indexes + k, 0, (types - 1) as u8))?;
     each(types, |k| type_at(file, records, k))?;
     skip(file, records + 6 * types, others)
-}
-
-// How many bytes stand before the first newline, or at all.
-fn line_length(bytes: &[u8]) -> usize
-    ensures { result ≡ line_length bytes.now }
-{
-    bytes
-        .iter()
-        .position(|b| *b == NEWLINE)
-        .unwrap_or(bytes.len())
 }
 
 // The place of the footer's text; the footer starts at `at`. The text is a line, and its newline is the file's last byte.

@@ -2,7 +2,7 @@
 // if it is cut short, and at its own place if it is whole.
 //
 // The file goes with each place, and no cursor keeps them: counts, seconds and a line are read again at places of their own.
-ghost use Rattle.std.specs.Prelude.{◌≡◌, ℕ, ◌+◌, ◌≤◌, length, take, drop, IfOk};
+ghost use Rattle.std.specs.Prelude.{◌≡◌, ℕ, ◌+◌, ◌≤◌, length, take, drop, IfOk, ◌<◌, ◌^◌};
 ghost use Rattle.tzif.specs.Fields.{byte_at, number4, offset4, second8, anything, byte_in, number_in, wrong_at, wrong_place};
 
 // The place of the first wrong field.
@@ -35,6 +35,15 @@ pub(crate) fn number(file: &[u8], at: usize) -> u32
     ensures { result ≡ number4 file.now at }
 {
     u32::from_be_bytes(array(file, at))
+}
+
+// A count, which is a 4-byte number.
+pub(crate) fn count(file: &[u8], at: usize) -> usize
+    requires { at + 4 ≤ length file.now }
+    ensures value { result ≡ number4 file.now at }
+    ensures few { result < 2 ^ 32 }
+{
+    number(file, at) as usize
 }
 
 pub(crate) fn offset(file: &[u8], at: usize) -> i32

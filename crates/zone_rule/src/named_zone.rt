@@ -28,11 +28,7 @@ impl<R: ZoneRule> NamedZone<'_, R> {
     fn rule_of(&self, zone: usize) -> Option<&R>
         ensures { MatchOption result (one_or_none (zone_name_of self.now.name) ≤ zone) (λ r. (zone < one_or_none (zone_name_of self.now.name)) × (r.now ≡ self.now.rule)) }
     {
-        if zone < count_of(&self.name) {
-            Some(&self.rule)
-        } else {
-            None
-        }
+        (zone < count_of(&self.name)).then_some(&self.rule)
     }
 }
 

@@ -3,8 +3,8 @@ use Rattle.std.proofs.lemmas.Iterator.{YieldsList-from_slice}
 use Rattle.std.proofs.lemmas.Iterator.Search.{position_from_yields_List}
 use Rattle.std.specs.List.{position}
 use Rattle.std.specs.Option.{unwrap_or}
-use Rattle.script.proofs.Cuts.{line_found}
-use Rattle.script.proofs.lines.line_length.Goals as goal
+use Rattle.reading.proofs.Newlines.{line_found}
+use Rattle.reading.proofs.line_length.Goals as goal
 
 pub returns-clause-value : goal.returns-clause-value
 returns-clause-value c =
