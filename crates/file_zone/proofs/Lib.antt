@@ -1,4 +1,2 @@
 pub mod Chunks
-pub mod FileTells
-pub mod GoodBlocks
 pub mod Lookups

@@ -5,7 +5,7 @@ use lib.Signed.{lt_z, le_z}
 use Rattle.std.proofs.lemmas.Int.{ints, by_lt_z}
 use Rattle.zone_rule.specs.declared.step.Step.{Step}
 use Rattle.zone_rule.specs.Steps.{offset_at, change_in, alters_at}
-use Rattle.zone_rule.proofs.Changes.{under, upon}
+use Rattle.zone_rule.specs.StepLaws.{under, upon}
 use Rattle.file_zone.specs.Blocks.{second_at, index_of, offset_of, offset_after, steps_from, Passed}
 
 left : (n k : ℕ) → k < n → n - k ≡ suc (n - (k + 1))

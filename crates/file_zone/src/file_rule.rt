@@ -1,5 +1,6 @@
 // The rule of a zone that views a file.
 ghost use Rattle.std.specs.Prelude.{◌≡◌, ◌+◌, ◌*◌, ◌≤◌, length};
+ghost use Rattle.file_zone.specs.FileTells.{file_sound};
 ghost use Rattle.file_zone.specs.Files.{part_of, file_tells};
 ghost use Rattle.file_zone.specs.Telling.{told_by, bytes_of, IsBlockOf};
 ghost use Rattle.tzif.specs.File.{checked};
@@ -54,7 +55,7 @@ fn part<'f>(file: &'f [u8], layout: Layout) -> &'f [u8]
 impl ZoneRule for ZoneFile<'_> {
     ghost told = { told_by };
 
-    fn keeps_bounds(&self) {}
+    ghost sound = { λ z. file_sound (bytes_of z) };
 
     fn value(&self, second: i64) -> Value {
         match self.block() {

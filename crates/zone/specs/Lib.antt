@@ -1,4 +1,5 @@
 pub mod Joining
+pub mod Joins
 pub mod Offsets
 pub mod Questions
 pub mod Zones

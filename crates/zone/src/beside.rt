@@ -1,8 +1,8 @@
 // Two zone sources side by side.
 ghost use Rattle.std.specs.Prelude.{◌≡◌};
-ghost use Rattle.side_by_side.specs.Places.{joined_count, place_of};
+ghost use Rattle.side_by_side.specs.Places.{place_of};
 ghost use Rattle.zone.specs.Joining.{joined};
-ghost use Rattle.zone.specs.Zones.{ZonesLaws};
+ghost use Rattle.zone.specs.Joins.{joined_laws};
 
 use crate::depth::{deep_change, deep_value};
 use crate::source::ZoneSource;
@@ -10,29 +10,23 @@ use crate::value::Value;
 pub use side_by_side::Beside;
 use side_by_side::{Place, joined_count, place_among};
 
-// The source that has a zone of two side by side, and its number there.
+// The source that has a zone of two side by side, and its number there. Calendars have the same over their own trait, which
+// has nothing in common with this one but names.
 fn place_in<P: ZoneSource, Q: ZoneSource>(pair: &Beside<P, Q>, zone: usize) -> Option<Place>
     ensures { result ≡ place_of (P.ZoneSource.zones pair.now.first).count (Q.ZoneSource.zones pair.now.second).count zone }
 {
     place_among(pair.first.count(), pair.second.count(), zone)
 }
 
-// How many zones there are of two sources side by side, and the laws of both.
-fn count_both<P: ZoneSource, Q: ZoneSource>(first: &P, second: &Q) -> usize
-    ensures value { result ≡ joined_count (P.ZoneSource.zones first.now).count (Q.ZoneSource.zones second.now).count }
-    ensures first_laws { ZonesLaws (P.ZoneSource.zones first.now) }
-    ensures second_laws { ZonesLaws (Q.ZoneSource.zones second.now) }
-{
-    joined_count(first.count(), second.count())
-}
-
 // The first's numbers, then the second's. Above 64 zones in all only the first's are there. A blank of either is one deeper
-// here.
+// here. Each question has a match of its own, since the two sources differ in type.
 impl<P: ZoneSource, Q: ZoneSource> ZoneSource for Beside<P, Q> {
     ghost zones = { λ p. joined (P.ZoneSource.zones p.first) (Q.ZoneSource.zones p.second) };
 
+    ghost lawful = { λ p. joined_laws _ _ (P.ZoneSource.lawful p.first) (Q.ZoneSource.lawful p.second) };
+
     fn count(&self) -> usize {
-        count_both(&self.first, &self.second)
+        joined_count(self.first.count(), self.second.count())
     }
 
     fn name(&self, zone: usize) -> Option<&[u8]> {

@@ -9,10 +9,8 @@ use crate::value::Value;
 pub trait ZoneSource {
     ghost zones: { Self → Zones };
 
-    // The number of zones. The laws of every source come with it.
     fn count(&self) -> usize
-        ensures value { result ≡ (zones self.now).count }
-        ensures laws { ZonesLaws (zones self.now) };
+        ensures { result ≡ (zones self.now).count };
 
     fn name(&self, zone: usize) -> Option<&[u8]>
         ensures { NameIs (zones self.now) zone result };
@@ -35,4 +33,6 @@ pub trait ZoneSource {
     // The first second after `after` and before `before` whose value differs from that of the second before it.
     fn change(&self, zone: usize, after: i64, before: i64) -> Option<i64>
         ensures { ChangeIs (zones self.now) zone after before result };
+
+    ghost lawful: { (s : Self) → ZonesLaws (zones s) };
 }

@@ -1,12 +1,10 @@
 -- A source of one zone keeps the laws of every source, and its changes are those of its rule.
-use Rattle.std.proofs.Common.{◌≡◌, ℕ, ◌<◌, ◌≤◌, ◌⊎◌, List, ℤ, pos, ◌-ℤ◌, ◌≤ℤ◌, ◌<ℤ◌, is_ok, Some, None, Option, sym, ap, ◌∙◌, subst, inl, inr, arith, Bor}
+use Rattle.std.proofs.Common.{◌≡◌, ℕ, ◌<◌, ◌≤◌, ◌⊎◌, List, ℤ, pos, ◌-ℤ◌, ◌<ℤ◌, Some, None, Option, sym, ap, ◌∙◌, subst, inl, inr, arith, Bor}
 use Rattle.std.proofs.lemmas.Int.{ints, by_lt_z}
-use Rattle.names.specs.ZoneScanning.{read_zone_name}
 use Rattle.zone.specs.declared.value.Value.{Value}
-use Rattle.zone.specs.Zones.{Zone, ZonesLaws, SoundValue, least_second, greatest_second, FirstChange, NameIs, ValueIs, ChangeIs}
+use Rattle.zone.specs.Zones.{Zone, FirstChange, NameIs, ValueIs, ChangeIs}
 use Rattle.zone_rule.specs.Ranges.{held, cut_low, cut_high}
 use Rattle.zone_rule.specs.Naming.{one_or_none, named_zone}
-use Rattle.zone_rule.proofs.Changes.{by_test}
 
 -- a zone whose ends hold changes only inside its range
 module _ {X : Type 0} (f : ℤ → X) (a b : ℤ) where
@@ -42,24 +40,6 @@ module _ (name : List ℕ) (told : Zone) where
   pub counted : (r : ℕ) → r ≡ one_or_none name → r ≡ (named_zone name told).count
   unfolding named_zone
   counted r e = e
-
-  pub named_laws : ((s : ℤ) → SoundValue (told s)) → ZonesLaws (named_zone name told)
-  unfolding named_zone
-  named_laws sound = record {
-    few = by_test (is_ok (read_zone_name name)) (λ e. rw e (omega arith)) (λ e. rw e (omega arith));
-    named = λ i h. by_test (is_ok (read_zone_name name)) (λ e. e) (λ e. let no : i < 0 = rw e at h in absurd (omega arith));
-    each = λ _. record {
-      sound = λ s. sound (held s);
-      before = λ s h. ap told (lower s h);
-      after = λ s h. ap told (upper s h);
-    };
-  }
-    where
-      lower : (s : ℤ) → s ≤ℤ least_second → held s ≡ held least_second
-      lower s h = grind (arith, ints)
-
-      upper : (s : ℤ) → greatest_second ≤ℤ s → held s ≡ held greatest_second
-      upper s h = grind (arith, ints)
 
   module _ (zone n : ℕ) (e : n ≡ one_or_none name) where
     pub out : n ≤ zone → (named_zone name told).count ≤ zone

@@ -1,6 +1,7 @@
 // A source of one zone.
 ghost use Rattle.std.specs.Prelude.{◌≡◌, ◌<◌, ◌≤◌, MatchOption};
 ghost use Rattle.names.specs.ZoneNamings.{zone_name_of};
+ghost use Rattle.zone_rule.specs.NamedLaws.{named_laws};
 ghost use Rattle.zone_rule.specs.Naming.{one_or_none, named_zone};
 
 use crate::range::{cut_high, cut_low, hold};
@@ -35,8 +36,9 @@ impl<R: ZoneRule> NamedZone<'_, R> {
 impl<R: ZoneRule> ZoneSource for NamedZone<'_, R> {
     ghost zones = { λ z. named_zone (zone_name_of z.name) (R.ZoneRule.told z.rule) };
 
+    ghost lawful = { λ z. named_laws (zone_name_of z.name) (R.ZoneRule.told z.rule) (R.ZoneRule.sound z.rule) };
+
     fn count(&self) -> usize {
-        self.rule.keeps_bounds();
         count_of(&self.name)
     }
 

@@ -8,14 +8,13 @@ use zone::value::Value;
 pub trait ZoneRule {
     ghost told: { Self → Zone };
 
-    // Does nothing; its promise is the rule's law. (A trait's own law can't be shown of a type that holds a reference.)
-    fn keeps_bounds(&self)
-        ensures { (s : ℤ) → SoundValue (told self.now s) };
-
     fn value(&self, second: i64) -> Value
         ensures { result ≡ told self.now second };
 
     // The first second after `after` and before `before` whose value differs from that of the second before it.
     fn change(&self, after: i64, before: i64) -> Option<i64>
         ensures { FirstChange (told self.now) after before result };
+
+    // Every value is one that a zone may have.
+    ghost sound: { (r : Self) (s : ℤ) → SoundValue (told r s) };
 }

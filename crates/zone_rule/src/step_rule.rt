@@ -2,6 +2,7 @@
 ghost use Rattle.std.specs.Prelude.{◌≡◌};
 ghost use Rattle.zone_rule.specs.Steps.{is_well_made, steps_tell};
 ghost use Rattle.zone_rule.specs.Telling.{told_by};
+ghost use Rattle.zone_rule.specs.StepLaws.{told_sound};
 
 use crate::rule::ZoneRule;
 use crate::step::Step;
@@ -36,7 +37,7 @@ impl<'a> Steps<'a> {
 impl ZoneRule for Steps<'_> {
     ghost told = { told_by };
 
-    fn keeps_bounds(&self) {}
+    ghost sound = { λ z s. told_sound z.offsets s };
 
     fn value(&self, second: i64) -> Value {
         match self.offsets {

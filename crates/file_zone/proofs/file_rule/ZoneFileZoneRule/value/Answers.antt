@@ -1,7 +1,7 @@
 use Rattle.std.proofs.Common.{arith}
 use Rattle.std.proofs.lemmas.Int.{to_z-of_z}
 use Rattle.tzif.specs.File.{checked}
-use Rattle.file_zone.proofs.FileTells.{told_there}
+use Rattle.file_zone.specs.FileTells.{told_there}
 use Rattle.file_zone.proofs.file_rule.ZoneFileZoneRule.value.Goals as goal
 
 pub returns-in-Ok : goal.returns-in-Ok

@@ -1,5 +1,5 @@
 use Rattle.std.proofs.Common.{sym, ◌∙◌}
-use Rattle.file_zone.proofs.GoodBlocks.{found}
+use Rattle.file_zone.specs.GoodBlocks.{found}
 use Rattle.file_zone.proofs.zone_file.ZoneFile.block.Goals as goal
 
 pub part-requires : goal.part-requires

@@ -1,12 +1,6 @@
-use Rattle.std.proofs.Common.{sym, ◌∙◌}
-use Rattle.zone.proofs.Joins.{counted, joined_laws}
+use Rattle.std.proofs.Common.{sym}
+use Rattle.zone.specs.Joins.{counted}
 use Rattle.zone.proofs.beside.BesideZoneSource.count.Goals as goal
 
 pub returns : goal.returns
-returns g c =
-    let a = g.P.ZoneSource.zones c.args.self.now.first in
-    let b = g.Q.ZoneSource.zones c.args.self.now.second in
-    record {
-      value = c.count_both.ensures.value ∙ sym (counted a b);
-      laws = joined_laws a b c.count_both.ensures.first_laws c.count_both.ensures.second_laws;
-    }
+returns g c = rw (c.joined_count.ensures, c.count.ensures, c.count-2.ensures) (sym (counted (g.P.ZoneSource.zones c.args.self.now.first) (g.Q.ZoneSource.zones c.args.self.now.second)))

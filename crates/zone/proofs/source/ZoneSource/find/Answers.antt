@@ -8,5 +8,5 @@ pub returns : goal.returns
 returns g c =
     let z = g.Self.ZoneSource.zones c.args.self.now in
     let n = c.args.name.now in
-    found_is z n c.count.result c.find.result c.count.ensures.value
+    found_is z n c.count.result c.find.result c.count.ensures
     (first_from_Range _ _ _ _ (λ i. Bears z i n) (λ i. Bears z i n → ⊥) c.find.ensures.ran (λ x q k. search rules) (λ x q k. search rules))

@@ -1,6 +1,6 @@
 use Rattle.std.proofs.Common.{arith}
 use Rattle.std.proofs.lemmas.Int.{to_z-of_z}
-use Rattle.zone_rule.proofs.Changes.{told_change, blank_change}
+use Rattle.zone_rule.specs.StepLaws.{told_change, blank_change}
 use Rattle.zone_rule.proofs.step_rule.StepsZoneRule.change.Goals as goal
 
 pub returns-in_err-offsets : goal.returns-in_err-offsets

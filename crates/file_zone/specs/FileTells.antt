@@ -8,13 +8,13 @@ use Rattle.tzif.specs.declared.layout.Layout.{Layout}
 use Rattle.tzif.specs.File.{checked}
 use Rattle.zone.specs.Zones.{SoundValue, FirstChange}
 use Rattle.zone_rule.specs.Steps.{offset_at, change_in, is_after, rising}
-use Rattle.zone_rule.proofs.Changes.{offsets_change, offsets_sound}
+use Rattle.zone_rule.specs.StepLaws.{offsets_change, offsets_sound}
 use Rattle.zone.specs.declared.value.Value.TheVariants.{Offset}
 use Rattle.file_zone.specs.declared.block.Block.{Block}
 use Rattle.file_zone.specs.Telling.{first_in, steps_in, IsBlockOf}
 use Rattle.file_zone.specs.Blocks.{second_at, offset_of, steps_from, steps_of, GoodBlock}
 use Rattle.file_zone.specs.Files.{part_of, told_in, file_tells, change_of}
-use Rattle.file_zone.proofs.GoodBlocks.{found}
+use Rattle.file_zone.specs.GoodBlocks.{found}
 
 -- the transitions of a good block rise, to offsets that a zone may have
 steps_rise : (b : List ℕ) (n : ℕ) → GoodBlock b n → (m k : ℕ) (last : Option ℤ) → k + m ≡ n → (k < n → is_after last (second_at b k) ≡ true) → rising last (steps_from b n k m) ≡ true
