@@ -12,6 +12,7 @@ const SPAN_SLOTS: usize = 32;
 fn main(rt: HostRuntime) -> anyhow::Result<()> {
     let heap = rt.alloc();
     let mut input = Vec::new(heap);
+    // u64 has no From<usize>
     rt.stdin()
         .take(SCRIPT_LIMIT as u64)
         .read_to_end(&mut input)?;

@@ -122,7 +122,8 @@ fn year_of(year: u32) -> Year
     }
 }
 
-// The year of a day, or one beside it: 400 years have about 146,099 days, and with 475 days added few guesses are wrong.
+// The year of a day, or one beside it: 400 years have about 146,099 days, and with 475 days added few guesses are wrong. A
+// function for this and the Gregorian guess would take all their numbers, and say no less.
 fn guess(day: u32) -> u32
     ensures is { day ≤ 3652059 → result ≡ (day + 475) * 400 / 146099 + 3760 }
     ensures fits { result ≤ 13761 }

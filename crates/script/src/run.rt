@@ -74,6 +74,7 @@ fn put_refusal(writer: &mut Writer, told: Told)
 {
     writer.put_bytes(b"no");
     put_word(writer, u64::from(told.number));
+    // u64 has no From<usize>
     put_word(writer, told.place as u64);
     put_word(writer, u64::from(told.cause));
     put_word(writer, u64::from(told.depth));

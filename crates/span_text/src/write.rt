@@ -71,7 +71,7 @@ fn is_nought(span: &Span) -> bool
 }
 
 // Puts the text of a span, as much of it as fits: a piece of a longer text. Of a span that a text can enter, it is the
-// canonical text.
+// canonical text. It is no Display, which may fail by its contract, where this can't.
 pub fn put_span(writer: &mut Writer, span: &Span)
     ensures { Puts writer.old (span_text span.now) writer.new }
 {

@@ -1,7 +1,7 @@
 // Numbers to divide by.
 ghost use Rattle.std.specs.Prelude.{◌≡◌, ◌<◌, MatchOption};
 
-// A number that is never 0, so that division by it needs no test.
+// A number that is never 0, so that division by it needs no test. The library's NonZeroU32 can't be made in a constant.
 #[derive(Clone, Copy)]
 pub struct Divisor {
     value: u32,

@@ -59,7 +59,7 @@ fn at_place(number: u8, place: usize) -> Told
 }
 
 impl Fault {
-    // What this refusal tells; no other refusal tells the same.
+    // What this refusal tells; no other refusal tells the same, which a From would have no clause for.
     pub fn told(self) -> Told
         ensures value { result ≡ told_by self }
         ensures alone { (other : AnyFault) → told_by other ≡ result → other ≡ self }

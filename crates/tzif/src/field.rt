@@ -37,7 +37,7 @@ pub(crate) fn number(file: &[u8], at: usize) -> u32
     u32::from_be_bytes(array(file, at))
 }
 
-// A count, which is a 4-byte number.
+// A count, which is a 4-byte number. A cast, since usize has no From<u32>.
 pub(crate) fn count(file: &[u8], at: usize) -> usize
     requires { at + 4 ≤ length file.now }
     ensures value { result ≡ number4 file.now at }

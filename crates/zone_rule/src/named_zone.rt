@@ -11,7 +11,7 @@ use zone::source::ZoneSource;
 use zone::value::Value;
 
 // One zone, told by its rule, under a name. A name out of form leaves the source no zone.
-#[derive(Drop)]
+#[derive(Clone, Copy, Drop)]
 pub struct NamedZone<'n, R> {
     pub name: ZoneName<'n>,
     pub rule: R,
