@@ -9,7 +9,7 @@ use Rattle.names.specs.Scanning.{read_calendar_name}
 use Rattle.years.specs.declared.date.Date.{Date}
 use Rattle.years.specs.Dates.{Years, Valid, after, next, number}
 use Rattle.years.specs.declared.rule.Year.{Year}
-use Rattle.years.specs.Rules.{IsYear, length_in}
+use Rattle.years.specs.Rules.{IsYear, YearAnswer, length_in}
 use Rattle.years.specs.Days.{Fitting, Bounded, Twins, YearsLaws, InRange, DateAnswer, DayAnswer}
 use Rattle.years.proofs.Numbers.{There, there, there_is, found, start_rises, number_high}
 use Rattle.calendar.specs.Calendars.{Calendar, CalendarLaws, CalendarsLaws, last_day, year_there, month_there, asked, date_in, day_of}
@@ -143,6 +143,22 @@ module _ (ys : Years) where
 
   in_years : (y : ℤ) → ys.first ≤ℤ y → y <ℤ ys.past → year_there one y ≡ true
   in_years y low high = and_from (int_le ys.first y) (int_le y (ys.past -ℤ pos 1)) (let h = low in grind (arith, ints)) (let k : y ≤ℤ (ys.past -ℤ pos 1) = omega (arith, ints) in grind (arith, ints))
+
+  pub out_of_years : (y : ℤ) → (ys.first ≤ℤ y → y <ℤ ys.past → ⊥) → year_there one y ≡ false
+  out_of_years y out = by (year_there one y) refl
+    where
+      by : (x : Bool) → year_there one y ≡ x → year_there one y ≡ false
+      by false h = h
+      by true h =
+          let p = and_parts (int_le ys.first y) (int_le y (ys.past -ℤ pos 1)) h in
+          let low : ys.first ≤ℤ y = grind (arith, ints) in
+          let high : y ≤ℤ (ys.past -ℤ pos 1) = grind (arith, ints) in
+          absurd (out low (omega (arith, ints)))
+
+  pub year_answer : (y : ℤ) (r : Option Year) → YearAnswer ys y r → (x : Year → Option ℕ) (z : Option ℕ)
+      → ((w : Year) → IsYear ys y w → x w ≡ z) → (elim r [ Some w ↦ x w | None ↦ None ]) ≡ cond (year_there one y) z None
+  year_answer y (Some w) a x z f = f w a.2 ∙ ap (λ b. cond b z None) (sym (in_years y a.0 a.1))
+  year_answer y None a x z f = ap (λ b. cond b z None) (sym (out_of_years y a))
 
   both : {a b c d : Bool} → a ≡ b → c ≡ d → ◌≡◌ {A = Bool × Bool} (a, c) (b, d)
   both p q = cc
