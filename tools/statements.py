@@ -32,7 +32,8 @@ def statements(root):
                 stated.append(lines[i].strip())
                 i += 1
             text = ' '.join(' '.join(stated).split())
-            if ' = ' not in text and not text.endswith(';'):
+            # what stands deeper is a helper inside a lemma
+            if ' = ' not in text and not text.endswith(';') and indent < 6:
                 found.setdefault((inside.split('/')[0], match.group(2)), []).append((inside, text))
     return found
 
