@@ -1,6 +1,8 @@
 #!/usr/bin/env python3
 """Lists the statements of specs/ and proofs/ (names with their types) that differ between two folders with crates/.
 
+A statement is the same where one of that name and text stands anywhere in the new folder. What a module takes and the bodies of definitions are left out.
+
 usage: tools/statements.py OLD NEW    prints how many are the same, changed and gone, and then a row for each that isn't the same
 """
 import collections

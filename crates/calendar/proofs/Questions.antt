@@ -1,5 +1,5 @@
 -- Of two tables side by side, a question goes to the table that has the number.
-use Rattle.std.proofs.Common.{◌≡◌, ℕ, ◌<◌, ◌≤◌, Bool, cond, ltb, ◌&&◌, List, Some, None, Option, sym, ap, ◌∙◌, subst, arith, Bor}
+use Rattle.std.proofs.Common.{◌≡◌, ℕ, ◌<◌, ◌≤◌, Bool, true, false, cond, ltb, ◌&&◌, List, Some, None, Option, sym, refl, ap, ◌∙◌, subst, arith, Bor}
 use Rattle.std.proofs.lemmas.Bool.{lt-ltb, le-ltb}
 use Rattle.years.specs.declared.date.Date.{Date}
 use Rattle.side_by_side.specs.declared.Place.{Place}
@@ -37,24 +37,39 @@ module _ (a b : Calendars) (k : ℕ) where
 
 -- ── answers ──
 
+-- what a table answers of a number, or nothing where it has none
+abbrev pub at : {X : Type 0} → Calendars → ℕ → (Calendar → Option X) → Option X
+at z i answer = cond (ltb i z.count) (answer (z.calendar i)) None
+
+asked_at : {X : Type 0} (z : Calendars) (i : ℕ) (there : Calendar → Bool) (answer : Calendar → X) → asked z i there answer ≡ at z i (λ c. cond (there c) (Some (answer c)) None)
+asked_at z i there answer = by (ltb i z.count)
+  where
+    by : (t : Bool) → cond (t && there (z.calendar i)) (Some (answer (z.calendar i))) None ≡ cond t (cond (there (z.calendar i)) (Some (answer (z.calendar i))) None) None
+    by true = refl
+    by false = refl
+
 module _ (y z : Calendars) (j i : ℕ) (same : SameAt y z j i) where
+  pub at_same : {X : Type 0} (answer : Calendar → Option X) → at y j answer ≡ at z i answer
+  at_same answer =
+      ap (λ t. cond t (answer (y.calendar j)) None) (lt-ltb j y.count same.there ∙ sym (lt-ltb i z.count same.here))
+      ∙ ap (λ c. cond (ltb i z.count) (answer c) None) (sym same.calendar)
+
   pub asked_same : {X : Type 0} (there : Calendar → Bool) (answer : Calendar → X) → asked y j there answer ≡ asked z i there answer
-  asked_same there answer =
-      ap (λ t. cond (t && there (y.calendar j)) (Some (answer (y.calendar j))) None) (lt-ltb j y.count same.there ∙ sym (lt-ltb i z.count same.here))
-      ∙ ap (λ c. cond (ltb i z.count && there c) (Some (answer c)) None) (sym same.calendar)
+  asked_same there answer = asked_at y j there answer ∙ (at_same (λ c. cond (there c) (Some (answer c)) None) ∙ sym (asked_at z i there answer))
 
   pub day_same : (d : Date) → day_of y j d ≡ day_of z i d
-  day_same d =
-      ap (λ t. cond t ((y.calendar j).number d) None) (lt-ltb j y.count same.there ∙ sym (lt-ltb i z.count same.here))
-      ∙ ap (λ (c : Calendar). cond (ltb i z.count) (c.number d) None) (sym same.calendar)
+  day_same d = at_same (λ (c : Calendar). c.number d)
 
   pub name_same : (r : Option (Bor (List ℕ))) → NameIs y j r → NameIs z i r
   name_same None n = let t = same.there in absurd (omega arith)
   name_same (Some x) n = (same.here, n.1 ∙ sym same.name)
 
 module _ (z : Calendars) (i : ℕ) (out : z.count ≤ i) where
+  pub at_nowhere : {X : Type 0} (answer : Calendar → Option X) → None ≡ at z i answer
+  at_nowhere answer = sym (ap (λ t. cond t (answer (z.calendar i)) None) (le-ltb i z.count out))
+
   pub asked_nowhere : {X : Type 0} (there : Calendar → Bool) (answer : Calendar → X) → None ≡ asked z i there answer
-  asked_nowhere there answer = sym (ap (λ t. cond (t && there (z.calendar i)) (Some (answer (z.calendar i))) None) (le-ltb i z.count out))
+  asked_nowhere there answer = at_nowhere (λ c. cond (there c) (Some (answer c)) None) ∙ sym (asked_at z i there answer)
 
   pub day_nowhere : (d : Date) → None ≡ day_of z i d
-  day_nowhere d = sym (ap (λ t. cond t ((z.calendar i).number d) None) (le-ltb i z.count out))
+  day_nowhere d = at_nowhere (λ (c : Calendar). c.number d)

@@ -6,7 +6,8 @@ use years::date::Date;
 use years::days::{date_of_day, day_of_date};
 use years::rule::YearRule;
 
-// Whether the calendar and the table agree, from the day to the date and from the date to the day.
+// Whether the calendar and the table agree, from the day to the date and from the date to the day: the date is the one that
+// comes so many days after that of day 1.
 pub(crate) fn agrees<R: YearRule>(rule: &R, day: u32, date: Date) -> bool
     ensures { Decides result (HasDate (R.YearRule.years rule.now) day date) }
 {

@@ -35,7 +35,7 @@ chars f h = number4 f (h + 40)
 abbrev pub first_block : List ℕ → ℕ
 first_block f = times f 0 * 5 + types f 0 * 6 + chars f 0 + leaps f 0 * 8 + isstds f 0 + isuts f 0
 
--- how many bytes of the second block stand after its types
+-- how many bytes of a block are of no transition, type or leap second; its header stands at h
 abbrev pub others : List ℕ → ℕ → ℕ
 others f h = chars f h + isstds f h + isuts f h
 

@@ -1,7 +1,8 @@
 // The fields of a file. Each must be whole and hold what is right; one that isn't refuses the file, at the file's length
 // if it is cut short, and at its own place if it is whole.
 //
-// The file goes with each place, and no cursor keeps them: counts, seconds and a line are read again at places of their own.
+// The file goes with each place, and no cursor keeps them: the fields of a header, the second before a second and the length
+// of the last line stand at places of their own.
 ghost use Rattle.std.specs.Prelude.{◌≡◌, ℕ, ◌+◌, ◌≤◌, length, take, drop, IfOk, ◌<◌, ◌^◌};
 ghost use Rattle.tzif.specs.Fields.{byte_at, number4, offset4, second8, anything, byte_in, number_in, wrong_at, wrong_place};
 

@@ -1,7 +1,7 @@
 // Dates.
 
-// A date of some calendar: the month and the day count from 1. Dates are ordered by year, then month, then day.
-#[derive(Clone, Copy, PartialEq, Eq, PartialOrd, Ord, Debug)]
+// A date of some calendar: the month and the day count from 1.
+#[derive(Clone, Copy, Debug, PartialEq, Eq)]
 pub struct Date {
     pub year: i32,
     pub month: u8,

@@ -9,7 +9,7 @@ pub const MONTHS_MOST: usize = 14;
 
 // One year: the day number on which it starts (which may lie before day 1), its days, its months, and the length of each
 // month; the lengths past the months are 0.
-#[derive(Clone, Copy, PartialEq, Eq, Debug)]
+#[derive(Clone, Copy, Debug, PartialEq, Eq)]
 pub struct Year {
     pub start: i32,
     pub days: u16,

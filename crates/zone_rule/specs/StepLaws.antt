@@ -1,4 +1,4 @@
--- The first change of a zone of steps, as it is found, is the first change of what the steps tell.
+-- The first change of a zone of steps, as it is found, is the first change of what the steps tell, and what they tell is sound.
 use Rattle.std.proofs.Common.{◌≡◌, Bool, true, false, ◌&&◌, leb, List, [], ◌∷◌, length, ℤ, pos, ◌-ℤ◌, ◌≤ℤ◌, ◌<ℤ◌, Some, None, Option, sym, refl, ap, ◌∙◌, arith}
 use lib.Signed.{lt_z, le_z}
 use Rattle.std.proofs.lemmas.Int.{ints, by_lt_z}
