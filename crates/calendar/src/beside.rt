@@ -9,7 +9,8 @@ pub use side_by_side::Beside;
 use side_by_side::{Place, joined_count, place_among};
 use years::date::Date;
 
-// The source that has a calendar of two side by side, and its number there.
+// The source that has a calendar of two side by side, and its number there. Zones have the same over their own trait: one
+// trait below both would take a meaning of its own, a law that ties it to theirs, and an impl more for every source.
 fn place_in<P: CalendarSource, Q: CalendarSource>(
     pair: &Beside<P, Q>,
     calendar: usize,
@@ -19,8 +20,9 @@ fn place_in<P: CalendarSource, Q: CalendarSource>(
     place_among(pair.first.count(), pair.second.count(), calendar)
 }
 
-// The first's numbers, then the second's. Above 64 calendars in all only the first's are there. Each question has a match of its
-// own, since the two sources differ in type.
+// The first's numbers, then the second's. Above 64 calendars in all only the first's are there. Each question has a match of
+// its own: a function for the choice would take two closures each time, since the two sources differ in type, and be no
+// shorter.
 impl<P: CalendarSource, Q: CalendarSource> CalendarSource for Beside<P, Q> {
     ghost calendars = { λ p. joined (P.CalendarSource.calendars p.first) (Q.CalendarSource.calendars p.second) };
 

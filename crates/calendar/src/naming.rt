@@ -21,7 +21,7 @@ impl Named {
         Named {
             bytes,
             length: held.len(),
-            in_form: read_calendar_name(held).is_ok(),
+            form: read_calendar_name(held),
         }
     }
 
@@ -34,6 +34,6 @@ impl Named {
     pub fn is_in_form(&self) -> bool
         ensures { result ≡ is_ok (read_calendar_name (name_of self.now)) }
     {
-        self.in_form
+        self.form.is_ok()
     }
 }

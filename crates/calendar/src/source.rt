@@ -19,7 +19,7 @@ pub trait CalendarSource {
     fn name(&self, calendar: usize) -> Option<&[u8]>
         ensures { NameIs (calendars self.now) calendar result };
 
-    // The lowest number that bears a name.
+    // The lowest number that bears a name. (Zones say the same over their own trait: see `beside`.)
     fn find(&self, name: &[u8]) -> Option<usize>
         ensures { FoundIs (calendars self.now) name.now result }
     {

@@ -14,6 +14,7 @@ struct Transition {
     index: usize,
 }
 
+// tzif has the like at a place in a file, with the premise that it is whole, which no public function may have.
 fn second(bytes: &[u8; 8]) -> i64
     ensures { result ≡ second8 bytes.now 0 }
 {
@@ -81,6 +82,7 @@ impl Block<'_> {
     {
         let start = self.passed(after);
         let offset = self.offset_after(start);
+        // two tests end the loop, one without an answer, which a chain would need two closures for
         for k in start..self.times {
             let t = self.transition(k);
             if before <= t.second {

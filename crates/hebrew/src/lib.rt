@@ -159,7 +159,7 @@ impl YearRule for Hebrew {
         if !(FIRST_YEAR..PAST_YEAR).contains(&year) {
             return None;
         }
-        Some(year_of(year as u32))
+        Some(year_of(year.unsigned_abs()))
     }
 
     fn estimate(&self, day: u32) -> i32 {

@@ -64,7 +64,7 @@ impl YearRule for Iso8601 {
         if !(FIRST_YEAR..PAST_YEAR).contains(&year) {
             return None;
         }
-        let number = year as u32;
+        let number = year.unsigned_abs();
         let leap_year = is_leap(number);
         let days = if leap_year { 366 } else { 365 };
         let start = start_of(number) as i32;

@@ -13,13 +13,13 @@ pub const ZONE_NAME_LIMIT: usize = 32;
 fn is_first_of_zone_name(byte: u8) -> bool
     ensures { result ≡ is_first_of_zone_name byte }
 {
-    byte.is_ascii_alphabetic() || matches!(byte as char, '_' | '.')
+    byte.is_ascii_alphabetic() || matches!(byte, b'_' | b'.')
 }
 
 fn is_in_zone_name(byte: u8) -> bool
     ensures { result ≡ is_in_zone_name byte }
 {
-    byte.is_ascii_alphanumeric() || matches!(byte as char, '.' | '_' | '-' | '+' | '/')
+    byte.is_ascii_alphanumeric() || matches!(byte, b'.' | b'_' | b'-' | b'+' | b'/')
 }
 
 // How far a name has been read.

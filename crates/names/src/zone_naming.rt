@@ -10,8 +10,8 @@ impl<'n> ZoneName<'n> {
     pub fn new(bytes: &'n [u8]) -> ZoneName<'n>
         ensures { zone_name_of result ≡ bytes.now }
     {
-        let in_form = read_zone_name(bytes).is_ok();
-        ZoneName { bytes, in_form }
+        let form = read_zone_name(bytes);
+        ZoneName { bytes, form }
     }
 
     pub fn bytes(&self) -> &'n [u8]
@@ -23,6 +23,6 @@ impl<'n> ZoneName<'n> {
     pub fn is_in_form(&self) -> bool
         ensures { result ≡ is_ok (read_zone_name (zone_name_of self.now)) }
     {
-        self.in_form
+        self.form.is_ok()
     }
 }

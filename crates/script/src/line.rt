@@ -2,14 +2,15 @@
 ghost use Rattle.std.specs.Prelude.{◌≡◌, ◌≤◌, length, Some, None};
 ghost use Rattle.reading.specs.Places.{AnswersWithin};
 ghost use Rattle.script.specs.Lines.{IsSpanLine};
-ghost use Rattle.script.specs.Scanning.{expected, in_command, in_gap, in_slot, in_space, in_text, stepped, ended, read_line};
+ghost use Rattle.script.specs.Scanning.{expected, in_command, in_gap, in_slot, in_text, stepped, ended, read_line};
 
 use reading::{Misread, Scan, read_within};
 
 // The most bytes of a line.
 pub const LINE_LIMIT: usize = 160;
 
-// A line `span S TEXT`: its slot, and the place of its text, which goes to the line's end.
+// A line `span S TEXT`: its slot, and the place of its text, which goes to the line's end. A place and no slice, since the
+// machine sees one byte at a time.
 #[derive(Clone, Copy)]
 pub struct SpanLine {
     pub slot: u16,
@@ -35,13 +36,7 @@ pub enum Progress {
 fn expected_byte(k: u8) -> u8
     ensures { result ≡ expected k }
 {
-    match k {
-        0 => b's',
-        1 => b'p',
-        2 => b'a',
-        3 => b'n',
-        _ => b' ',
-    }
+    b"span ".get(usize::from(k)).copied().unwrap_or(b' ')
 }
 
 fn command_step(read: u8, byte: u8) -> Option<Progress>
@@ -59,8 +54,8 @@ fn command_step(read: u8, byte: u8) -> Option<Progress>
 fn gap_step(byte: u8) -> Option<Progress>
     ensures { result ≡ in_gap byte }
 {
-    match byte as char {
-        '0'..='9' => Some(Progress::Slot {
+    match byte {
+        b'0'..=b'9' => Some(Progress::Slot {
             slot: u16::from(byte - b'0'),
             digits: 1,
         }),
@@ -71,32 +66,24 @@ fn gap_step(byte: u8) -> Option<Progress>
 fn slot_step(slot: u16, digits: u8, byte: u8) -> Option<Progress>
     ensures { result ≡ in_slot slot digits byte }
 {
-    match byte as char {
-        '0'..='9' if digits < 3 && slot < 100 => {
+    match byte {
+        b'0'..=b'9' if digits < 3 && slot < 100 => {
             Some(Progress::Slot {
                 slot: slot * 10 + u16::from(byte - b'0'),
                 digits: digits + 1,
             })
         }
-        ' ' => Some(Progress::Space { slot }),
+        b' ' => Some(Progress::Space { slot }),
         _ => None,
     }
 }
 
-fn space_step(slot: u16, at: usize, byte: u8) -> Option<Progress>
-    ensures { result ≡ in_space slot at byte }
-{
-    match byte as char {
-        ' ' => None,
-        _ => Some(Progress::Text { slot, at }),
-    }
-}
-
+// A byte of a text, which began at a place: also its first, after the slot's space.
 fn text_step(slot: u16, at: usize, byte: u8) -> Option<Progress>
     ensures { result ≡ in_text slot at byte }
 {
-    match byte as char {
-        ' ' => None,
+    match byte {
+        b' ' => None,
         _ => Some(Progress::Text { slot, at }),
     }
 }
@@ -113,7 +100,7 @@ impl Scan for Progress {
             Progress::Command { read } => command_step(read, byte),
             Progress::Gap => gap_step(byte),
             Progress::Slot { slot, digits } => slot_step(slot, digits, byte),
-            Progress::Space { slot } => space_step(slot, at, byte),
+            Progress::Space { slot } => text_step(slot, at, byte),
             Progress::Text { slot, at: text } => text_step(slot, text, byte),
         }
     }

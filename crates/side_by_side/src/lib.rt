@@ -14,7 +14,7 @@ pub struct Beside<P, Q> {
     pub second: Q,
 }
 
-// Which of two tables side by side has an entry, and the entry's number there.
+// Which of two tables side by side has an entry, and the entry's number there. (An Either would call them left and right.)
 #[derive(Clone, Copy)]
 pub enum Place {
     First(usize),

@@ -10,7 +10,8 @@ use reading::read;
 use timebase::fault::Fault;
 use timebase::span::{PART_LIMIT, Part, Span, TIME_LIMIT};
 
-// The size of a part, which a sign can be put to, if it keeps the limit.
+// The size of a part, which a sign can be put to, if it keeps the limit. (`time_of` tests a wider number by a limit of its
+// own: one function for both would cast each way.)
 fn count_of(size: u32, part: Part) -> Result<i32, Fault>
     ensures { result ≡ within part_limit part size }
 {

@@ -55,19 +55,11 @@ fn put_date(writer: &mut Writer, span: &Span)
     put_part(writer, u64::from(span.days.unsigned_abs()), b'D');
 }
 
-const NOUGHT: Span = Span {
-    years: 0,
-    months: 0,
-    weeks: 0,
-    days: 0,
-    time: 0,
-};
-
 // Whether every part is nought.
 fn is_nought(span: &Span) -> bool
     ensures { result ≡ is_nought span.now }
 {
-    *span == NOUGHT
+    *span == Span::default()
 }
 
 // Puts the text of a span, as much of it as fits: a piece of a longer text. Of a span that a text can enter, it is the

@@ -21,7 +21,7 @@ fn has_date<R: YearRule>(rule: &R, day: u32, date: Date) -> bool
     date_of_day(rule, day) == Some(date)
 }
 
-// Whether the calendar gives the date this day.
+// Whether the calendar gives the date this day. Each way has a promise of its own, so that a wrong test of either is refused.
 fn has_day<R: YearRule>(rule: &R, date: Date, day: u32) -> bool
     ensures { Decides result (HasDate (R.YearRule.years rule.now) day date) }
 {

@@ -13,6 +13,7 @@ use years::days::date_of_day;
 #[derive(Clone, Copy)]
 pub struct Comparison {
     row: Row,
+    // either may agree where the other doesn't
     gregorian_agrees: bool,
     hebrew_agrees: bool,
 }

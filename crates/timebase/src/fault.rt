@@ -37,7 +37,8 @@ pub enum Fault {
     BadFile { at: usize },
 }
 
-// What a refusal tells: its number, and its place, cause and depth, which are 0 where it has none.
+// What a refusal tells: its number, and its place, cause and depth, which are 0 where it has none. They are numbers since
+// the answer to a call is written in them.
 #[derive(Clone, Copy, Debug, PartialEq, Eq)]
 pub struct Told {
     pub number: u8,
@@ -59,7 +60,7 @@ fn at_place(number: u8, place: usize) -> Told
 }
 
 impl Fault {
-    // What this refusal tells; no other refusal tells the same, which a From would have no clause for.
+    // What this refusal tells; no other refusal tells the same. A From would say both in one relation, and read no plainer.
     pub fn told(self) -> Told
         ensures value { result ≡ told_by self }
         ensures alone { (other : AnyFault) → told_by other ≡ result → other ≡ self }

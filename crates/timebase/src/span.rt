@@ -20,7 +20,7 @@ pub const TIME_LIMIT: u64 = 400_000_000_000_000_000;
 
 // What lies between two marks: calendar parts, which are counted in a mark's own calendar, and a time in microseconds.
 // A span that a text can enter has parts of one sign, within their limits; one that a host wrote into its memory may not.
-#[derive(Clone, Copy, Debug, PartialEq, Eq)]
+#[derive(Clone, Copy, Debug, Default, PartialEq, Eq)]
 pub struct Span {
     pub years: i32,
     pub months: i32,
@@ -85,6 +85,7 @@ impl Span {
         ensures law { MatchOption result (Enterable self.now) (λ _. Enterable self.now → ⊥) }
     {
         let minus = self.is_minus();
+        // the library tells `find` over an array by its runs alone
         for part in Part::ALL {
             if is_wrong(minus, part.limit(), self.part(part)) {
                 return Some(part);

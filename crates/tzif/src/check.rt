@@ -20,6 +20,7 @@ use zone::offset::is_offset;
 pub const FILE_LIMIT: usize = 65_536;
 
 // `TZif` as a number.
+// (a number, since a constant can't call `from_be_bytes`)
 const MAGIC: u32 = 0x545A_6966;
 
 const HEADER_SIZE: usize = 44;
@@ -28,7 +29,7 @@ const TIMES_MOST: u32 = 2_000;
 
 const TYPES_MOST: u32 = 256;
 
-const NEWLINE: u8 = 10;
+const NEWLINE: u8 = b'\n';
 
 // How many bytes of a block are of no transition, type or leap second; its header stands at `at`.
 fn others(file: &[u8], at: usize) -> usize
@@ -74,7 +75,7 @@ fn second_header(file: &[u8], at: usize, version: u8) -> Result<Counts, WrongAt>
 }
 
 // The checks of `count` elements, in order; the first wrong one ends them.
-// The library's `try_for_each` promises only its calls: each use would need an induction from them to the fields.
+// The library's `try_for_each` tells its calls alone, so that here the same loop would stand in the proof.
 fn each<T: Drop, F: Fn(usize) -> Result<T, WrongAt>>(count: usize, check: F) -> Result<(), WrongAt>
     requires { (k : ℕ) → k < count → F.pre check k }
     ensures { (file : List ℕ) (fields : ℕ → List Field) → ((k : ℕ) (r : Result T WrongAt) → k < count → F.post check k r → wrong_place r ≡ first_wrong file (fields k)) → wrong_place result ≡ first_wrong file (fields_of_each fields 0 count) }

@@ -6,7 +6,7 @@
 ghost use Rattle.std.specs.Prelude.{◌≡◌, ℕ, ◌+◌, ◌≤◌, length, take, drop, IfOk, ◌<◌, ◌^◌};
 ghost use Rattle.tzif.specs.Fields.{byte_at, number4, offset4, second8, anything, byte_in, number_in, wrong_at, wrong_place};
 
-// The place of the first wrong field.
+// The place of the first wrong field. It is no `Misread`, which `?` turns into another refusal.
 #[derive(Clone, Copy, Debug, PartialEq, Eq)]
 pub(crate) struct WrongAt {
     pub(crate) at: usize,
@@ -75,7 +75,7 @@ pub(crate) fn byte_in(file: &[u8], at: usize, least: u8, most: u8) -> Result<u8,
 }
 
 // The 4-byte number at `at`, which must be from `least` to `most`.
-// Not one function with `byte_in`: that takes a trait with a law for each type, which is longer than this body.
+// Not one function with `byte_in`: a test over any ordered type would say its order in the contract, and share two lines.
 pub(crate) fn number_in(file: &[u8], at: usize, least: u32, most: u32) -> Result<u32, WrongAt>
     ensures wrong { wrong_place result ≡ wrong_at file.now (number_in file.now at least most) }
     ensures near { IfOk result (λ v. (v ≡ number4 file.now at) × (least ≤ v) × (v ≤ most)) }

@@ -10,8 +10,8 @@ use crate::value::Value;
 pub use side_by_side::Beside;
 use side_by_side::{Place, joined_count, place_among};
 
-// The source that has a zone of two side by side, and its number there. Calendars have the same over their own trait, which
-// has nothing in common with this one but names.
+// The source that has a zone of two side by side, and its number there. Calendars have the same over their own trait: one
+// trait below both would take a meaning of its own, a law that ties it to theirs, and an impl more for every source.
 fn place_in<P: ZoneSource, Q: ZoneSource>(pair: &Beside<P, Q>, zone: usize) -> Option<Place>
     ensures { result ≡ place_of (P.ZoneSource.zones pair.now.first).count (Q.ZoneSource.zones pair.now.second).count zone }
 {
@@ -19,7 +19,8 @@ fn place_in<P: ZoneSource, Q: ZoneSource>(pair: &Beside<P, Q>, zone: usize) -> O
 }
 
 // The first's numbers, then the second's. Above 64 zones in all only the first's are there. A blank of either is one deeper
-// here. Each question has a match of its own, since the two sources differ in type.
+// here. Each question has a match of its own: a function for the choice would take two closures each time, since the two
+// sources differ in type, and be no shorter.
 impl<P: ZoneSource, Q: ZoneSource> ZoneSource for Beside<P, Q> {
     ghost zones = { λ p. joined (P.ZoneSource.zones p.first) (Q.ZoneSource.zones p.second) };
 

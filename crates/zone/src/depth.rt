@@ -11,7 +11,7 @@ fn deeper(value: Value) -> Value
     ensures { result ≡ deeper_of value }
 {
     match value {
-        Value::Offset(offset) => Value::Offset(offset),
+        Value::Offset(_) => value,
         Value::Blank { cause, depth } => Value::Blank {
             cause,
             depth: depth.saturating_add(1),

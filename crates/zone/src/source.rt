@@ -15,7 +15,7 @@ pub trait ZoneSource {
     fn name(&self, zone: usize) -> Option<&[u8]>
         ensures { NameIs (zones self.now) zone result };
 
-    // The lowest number that bears a name.
+    // The lowest number that bears a name. (Calendars say the same over their own trait: see `beside`.)
     fn find(&self, name: &[u8]) -> Option<usize>
         ensures { FoundIs (zones self.now) name.now result }
     {

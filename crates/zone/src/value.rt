@@ -1,7 +1,7 @@
 // What a zone says of a second.
 
-// What a zone says of a second: its offset from UTC in seconds, or a blank, where it has none. A blank has a cause, and
-// as its depth the number of layers that it came through.
+// What a zone says of a second: its offset from UTC in seconds, or a blank, where it has none. A blank has a cause, a
+// number that the source chooses, and as its depth the number of layers that it came through.
 #[derive(Clone, Copy, Debug, PartialEq, Eq)]
 pub enum Value {
     Offset(i32),

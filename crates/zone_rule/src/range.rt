@@ -2,10 +2,10 @@
 ghost use Rattle.std.specs.Prelude.{◌≡◌};
 ghost use Rattle.zone_rule.specs.Ranges.{held, cut_low, cut_high};
 
-// A day before 0001-01-02T00:00:00Z.
+// A day before 0001-01-01T00:00:00Z.
 const FIRST: i64 = -62_135_683_200;
 
-// A day after 9999-12-30T23:59:59Z.
+// A day after 9999-12-31T23:59:59Z.
 const LAST: i64 = 253_402_387_199;
 
 // The second whose value holds at `second`.

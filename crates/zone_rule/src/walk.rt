@@ -9,13 +9,10 @@ use zone::offset::is_offset;
 fn is_after(last: Option<i64>, at: i64) -> bool
     ensures { result ≡ is_after last at }
 {
-    match last {
-        Some(last) => last < at,
-        None => true,
-    }
+    last < Some(at)
 }
 
-// Whether the changes come in strictly rising order, to offsets that a zone may have.
+// Whether the changes come in strictly rising order, to offsets that a zone may have: one walk for both tests.
 pub(crate) fn rises(changes: &[Step]) -> bool
     ensures { result ≡ rising None changes.now }
 {
@@ -39,7 +36,7 @@ fn alters(offset: i32, after: i64, at: i64, next: i32) -> bool
 }
 
 impl Offsets<'_> {
-    // The offset at a second.
+    // The offset at a second. At most 8 changes: they are walked over, as the change question has to.
     pub(crate) fn at(&self, second: i64) -> i32
         ensures { result ≡ offset_at self.now.first self.now.changes.now second }
     {
