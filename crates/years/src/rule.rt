@@ -8,7 +8,7 @@ ghost use Rattle.years.specs.Rules.{YearAnswer, length_in};
 pub const MONTHS_MOST: usize = 14;
 
 // One year: the day number on which it starts (which may lie before day 1), its days, its months, and the length of each
-// month; the lengths past the months are 0.
+// month; the lengths past the months are 0. An array, so that a year is Copy and takes no heap.
 #[derive(Clone, Copy, Debug, PartialEq, Eq)]
 pub struct Year {
     pub start: i32,

@@ -25,7 +25,8 @@ fn count_of(name: &ZoneName<'_>) -> usize
 }
 
 impl<R: ZoneRule> NamedZone<'_, R> {
-    // The rule of a zone of the source; none for a zone that isn't there.
+    // The rule of a zone of the source; none for a zone that isn't there. (A source of one calendar has the like: names and
+    // rules are of other types there, with other promises.)
     fn rule_of(&self, zone: usize) -> Option<&R>
         ensures { MatchOption result (one_or_none (zone_name_of self.now.name) ≤ zone) (λ r. (zone < one_or_none (zone_name_of self.now.name)) × (r.now ≡ self.now.rule)) }
     {
