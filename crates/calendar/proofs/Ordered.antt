@@ -52,12 +52,3 @@ module _ (s : Calendars) (laws : CalendarsLaws s) (k : ℕ) (a b : Date) where
           λ h. lt-ltb m n (later (s.calendar k) l m n u.0 u.1 v.0 v.1 (subst (λ (d : Date). Before ((s.calendar k).date m) d) (sym v.2) (subst (λ (d : Date). Before d b) (sym u.2) h))),
         ),
       )
-
-  clash : {A : Type 0} (n : ℕ) → ◌≡◌ {A = Option ℕ} None (Some n) → A
-  clash n e = let z : ◌≡◌ {A = ℕ} 0 1 = cc in absurd (omega arith)
-
-  pub none_first : None ≡ day_of s k a → (r : Option Bool) → r ≡ None → OrderIs s k a b r
-  none_first e r f = subst (OrderIs s k a b) (sym f) (λ x y. clash x.day (e ∙ x.is))
-
-  pub none_second : None ≡ day_of s k b → (r : Option Bool) → r ≡ None → OrderIs s k a b r
-  none_second e r f = subst (OrderIs s k a b) (sym f) (λ x y. clash y.day (e ∙ y.is))

@@ -7,9 +7,8 @@ use Rattle.timebase.specs.declared.fault.Fault.{Fault}
 use Rattle.tzif.specs.declared.layout.Layout.{Layout}
 use Rattle.tzif.specs.File.{checked}
 use Rattle.zone.specs.Zones.{SoundValue, FirstChange}
-use Rattle.zone_rule.specs.Steps.{offset_at, change_in, is_after, rising}
+use Rattle.zone_rule.specs.Steps.{change_in, is_after, rising}
 use Rattle.zone_rule.specs.StepLaws.{offsets_change, offsets_sound}
-use Rattle.zone.specs.declared.value.Value.TheVariants.{Offset}
 use Rattle.file_zone.specs.declared.block.Block.{Block}
 use Rattle.file_zone.specs.Telling.{first_in, steps_in, IsBlockOf}
 use Rattle.file_zone.specs.Blocks.{second_at, offset_of, steps_from, steps_of, GoodBlock}
@@ -48,10 +47,6 @@ module _ (f : List ℕ) where
 
 -- what is looked up in the block is told
 module _ (f : List ℕ) (block : Block) where
-  pub told_there : (r : Result Layout Fault) (s : ℤ) → IsBlockOf f r (Ok block) → told_in f r s ≡ Offset (offset_at (first_in block) (steps_in block) s)
-  told_there (Ok l) s e = rw (e.0, e.1)
-  told_there (Err d) s e = absurd e
-
   pub change_there : (r : Result Layout Fault) (a b : ℤ) → IsBlockOf f r (Ok block) → change_of f r a b ≡ change_in (first_in block) (steps_in block) a b
   change_there (Ok l) a b e = rw (e.0, e.1)
   change_there (Err d) a b e = absurd e

@@ -1,8 +1,7 @@
 -- A reader by steps, each of whose states can still come to an end, stops where the text stops.
-use Rattle.std.proofs.Common.{◌≡◌, ℕ, ◌+◌, ◌<◌, Bool, true, false, cond, ltb, ◌⊎◌, List, [], ◌∷◌, ◌++◌, length, get_or, take, drop, Some, None, Ok, Err, Option, Result, sym, refl, ap, ◌∙◌, subst, inl, inr, append_assoc, append-nil, arith, length-append}
+use Rattle.std.proofs.Common.{◌≡◌, ℕ, ◌+◌, ◌<◌, Bool, true, false, cond, ltb, ◌⊎◌, List, [], ◌∷◌, ◌++◌, length, take, Some, None, Ok, Err, Option, Result, sym, refl, ap, ◌∙◌, subst, inl, inr, append_assoc, append-nil, arith, length-append}
 use Rattle.std.proofs.lemmas.Bool.{ltb-true, ltb-false}
-use Rattle.std.proofs.lemmas.List.{take_at, take_all, drop_all, at_drop_more}
-use Rattle.std.specs.Option.{ok_or}
+use Rattle.std.proofs.lemmas.List.{take_at, take_all}
 use Rattle.reading.specs.declared.Misread.{Misread}
 use Rattle.reading.specs.Reading.{misread, read_on, limited}
 use Rattle.reading.specs.Places.{Begins, Longest, Answers, AnswersWithin}
@@ -26,36 +25,12 @@ pub cond_some : {S : Type 0} (c : Bool) (x : S) (o : Option S) (t : S) → cond 
 cond_some true x o t h = inl (refl, cc)
 cond_some false x o t h = inr h
 
--- ── the loop ──
-
-pub ok_or_some : {A E : Type 0} (o : Option A) (e : E) (x : A) → Ok x ≡ ok_or o e → o ≡ Some x
-ok_or_some (Some y) e x h = cc
-ok_or_some None e x h = cc
-
-pub ok_or_none : {A E : Type 0} (o : Option A) (e x : E) → Err x ≡ ok_or o e → (o ≡ None) × (x ≡ e)
-ok_or_none (Some y) e x h = let z : ◌≡◌ {A = ℕ} 0 1 = cc in absurd (omega arith)
-ok_or_none None e x h = (refl, cc)
+-- ── the steps ──
 
 module _ {S V : Type 0} (step : S → ℕ → ℕ → Option S) (end : S → Option V) where
   -- one step
   pub go : (s t : S) (a b : ℕ) (bs : List ℕ) → step s a b ≡ Some t → read_on step end s a (b ∷ bs) ≡ read_on step end t (a + 1) bs
   go s t a b bs h = rw (h, read_on) refl
-
-  -- a byte that stands
-  pub read_more : (s t : S) (at : ℕ) (xs : List ℕ) → at < length xs → step s at (get_or xs at 0) ≡ Some t → read_on step end t (at + 1) (drop (at + 1) xs) ≡ read_on step end s at (drop at xs)
-  read_more s t at xs h e = sym (at_drop_more (read_on step end s at) xs at 0 h ∙ go s t at (get_or xs at 0) (drop (at + 1) xs) e)
-
-  -- a byte that can't stand
-  pub read_stuck : (s : S) (at : ℕ) (xs : List ℕ) → at < length xs → step s at (get_or xs at 0) ≡ None → read_on step end s at (drop at xs) ≡ Err (misread at)
-  read_stuck s at xs h e = at_drop_more (read_on step end s at) xs at 0 h ∙ rw (e, read_on) refl
-
-  -- the end of the text
-  pub read_end : (s : S) (at : ℕ) (xs : List ℕ) → at ≡ length xs → read_on step end s at (drop at xs) ≡ ok_or (end s) (misread (length xs))
-  read_end s at xs h = subst (λ n. read_on step end s n (drop n xs) ≡ ok_or (end s) (misread (length xs))) (sym h) (ap (read_on step end s (length xs)) (drop_all (length xs) xs (omega arith)) ∙ ended (end s))
-    where
-      ended : (o : Option V) → ◌≡◌ {A = Result V Misread} (elim o [ Some v ↦ Ok v | None ↦ Err (misread (length xs)) ]) (ok_or o (misread (length xs)))
-      ended (Some v) = refl
-      ended None = refl
 
   -- a reader that reads gets past its first byte
   pub first_step : (s : S) (a b : ℕ) (bs : List ℕ) (v : V) → read_on step end s a (b ∷ bs) ≡ Ok v → (t : S) × (step s a b ≡ Some t) × (read_on step end t (a + 1) bs ≡ Ok v)

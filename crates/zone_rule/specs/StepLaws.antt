@@ -125,9 +125,6 @@ module _ (o : ℤ) (cs : List Step) where
 pub told_change : (r : Option Offsets) (o : Offsets) (a b : ℤ) (q : Option ℤ) → r ≡ Some o → q ≡ change_in o.first o.changes.now a b → FirstChange (offsets_tell r) a b q
 told_change r o a b q h e = rw h (offsets_change o.changes.now o.first a b q (made_rising o.first o.changes.now o.well_made) e)
 
-pub blank_change : (r : Option Offsets) (a b : ℤ) → r ≡ None → FirstChange (offsets_tell r) a b None
-blank_change r a b h = λ t k l. rw h refl
-
 pub told_sound : (r : Option Offsets) (s : ℤ) → SoundValue (offsets_tell r s)
 told_sound None s = (omega arith, omega arith)
 told_sound (Some o) s = offsets_sound o.changes.now o.first s (made_first o.first o.changes.now o.well_made) (made_rising o.first o.changes.now o.well_made)

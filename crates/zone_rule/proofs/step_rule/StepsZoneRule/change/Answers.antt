@@ -1,10 +1,7 @@
 use Rattle.std.proofs.Common.{arith}
 use Rattle.std.proofs.lemmas.Int.{to_z-of_z}
-use Rattle.zone_rule.specs.StepLaws.{told_change, blank_change}
+use Rattle.zone_rule.specs.StepLaws.{told_change}
 use Rattle.zone_rule.proofs.step_rule.StepsZoneRule.change.Goals as goal
-
-pub returns-in_err-offsets : goal.returns-in_err-offsets
-returns-in_err-offsets c = rw c.from_residual.ensures (blank_change c.args.self.now.offsets c.args.after c.args.before c.in_err-offsets.was)
 
 pub returns : goal.returns
 returns c = told_change c.args.self.now.offsets c.in_ok-offsets.offsets c.args.after c.args.before c.change.result c.in_ok-offsets.was (grind (arith, to_z-of_z))
