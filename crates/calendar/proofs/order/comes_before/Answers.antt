@@ -1,4 +1,4 @@
-use Rattle.calendar.proofs.Ordered.{told, none_first, none_second}
+use Rattle.calendar.proofs.Ordered.{told}
 use Rattle.calendar.proofs.order.comes_before.Goals as goal
 
 pub returns : goal.returns
