@@ -68,7 +68,7 @@ fn put_word(writer: &mut Writer, n: u64)
     writer.put_number(n);
 }
 
-// Puts what a refusal tells.
+// Puts what a refusal tells. It is no Display, which may fail by its contract, where this can't.
 fn put_refusal(writer: &mut Writer, told: Told)
     ensures { Puts writer.old (refusal_text told) writer.new }
 {

@@ -64,6 +64,7 @@ fn second_header(file: &[u8], at: usize, version: u8) -> Result<Counts, WrongAt>
     byte_in(file, at + 4, version, version)?;
     skip(file, at + 5, 23)?;
     number_in(file, at + 28, 0, 0)?;
+    // usize has no From<u32>
     let times = number_in(file, at + 32, 0, TIMES_MOST)? as usize;
     let types = number_in(file, at + 36, 1, TYPES_MOST)? as usize;
     skip(file, at + 40, 4)?;
