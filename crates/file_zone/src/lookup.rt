@@ -47,7 +47,7 @@ impl Block<'_> {
         self.seconds().partition_point(|t| second(t) <= at)
     }
 
-    // The offset of a type.
+    // The offset of a type. As with `second`, tzif has the like with a premise.
     fn type_offset(&self, index: usize) -> i32
         requires { (9 * self.now.times + 6 * index + 6) ≤ length self.now.bytes.now }
         ensures { result ≡ offset_of self.now.bytes.now self.now.times index }

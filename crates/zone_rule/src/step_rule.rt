@@ -14,7 +14,7 @@ use zone::value::Value;
 // The most changes of a zone of steps.
 pub const STEPS_MOST: usize = 8;
 
-// They are not judged yet, and so no `Offsets`.
+// A first offset and changes stand beside each other here and in `new`, since they are not judged yet, and so no `Offsets`.
 fn is_well_made(first: i32, changes: &[Step]) -> bool
     ensures { result ≡ is_well_made first changes.now }
 {

@@ -50,7 +50,7 @@ impl Offsets<'_> {
         offset
     }
 
-    // The first change of offset after one second and before another.
+    // The first change of offset after one second and before another. It needs the offset before each change, and so walks.
     pub(crate) fn change(&self, after: i64, before: i64) -> Option<i64>
         ensures { result ≡ change_in self.now.first self.now.changes.now after before }
     {
