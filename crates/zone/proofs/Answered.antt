@@ -1,12 +1,11 @@
 -- A question has one answer over a table, so that sources are told apart by their meaning alone.
-use Rattle.std.proofs.Common.{◌≡◌, ℕ, Bool, List, ℤ, Some, None, Decides, MatchOption, Option, ◌<◌, ◌≤◌, sym, refl, ap, ◌∙◌, subst, inl, inr, arith, Bor}
+use Rattle.std.proofs.Common.{◌≡◌, ℕ, Bool, List, ℤ, Some, None, Decides, MatchOption, Option, ◌<◌, ◌≤◌, sym, refl, ap, ◌∙◌, subst, arith, Bor}
 use Rattle.std.proofs.lemmas.Int.{ints, by_lt_z}
-use Rattle.std.proofs.lemmas.Bool.{cases_order}
 use Rattle.std.specs.Option.{option_eq}
 use Rattle.zone.specs.declared.question.Question.{Question}
 use Rattle.zone.specs.declared.question.Question.TheVariants.{Count, Name, Find, Value, Change}
 use Rattle.zone.specs.declared.value.Value.{Value as AnyValue}
-use Rattle.zone.specs.Zones.{Zones, FirstAt, Bears, NameIs, FoundIs, ValueIs, ChangeIs}
+use Rattle.zone.specs.Zones.{Zones, FirstAt, Bears, NameIs, FoundIs, ChangeIs}
 use Rattle.zone.specs.Questions.{seen, BytesAre, Alike}
 
 -- ── one answer ──
@@ -17,21 +16,6 @@ module _ (z : Zones) where
   one_name i None (Some m) h k = absurd (omega (arith, h, k.0))
   one_name i (Some n) None h k = absurd (omega (arith, h.0, k))
   one_name i (Some n) (Some m) h k = ap Some (h.1 ∙ sym k.1)
-
-  one_value : (i : ℕ) (s : ℤ) (r q : Option AnyValue) → ValueIs z i s r → ValueIs z i s q → r ≡ q
-  one_value i s None None h k = refl
-  one_value i s None (Some m) h k = absurd (omega (arith, h, k.0))
-  one_value i s (Some n) None h k = absurd (omega (arith, h.0, k))
-  one_value i s (Some n) (Some m) h k = ap Some (h.1 ∙ sym k.1)
-
-  one_found : (n : List ℕ) (r q : Option ℕ) → FoundIs z n r → FoundIs z n q → r ≡ q
-  one_found n None None h k = refl
-  one_found n None (Some j) h k = absurd (h j k.0 k.1)
-  one_found n (Some i) None h k = absurd (k i h.0 h.1)
-  one_found n (Some i) (Some j) h k = elim (cases_order i j) [
-    | inl e ↦ ap Some e
-    | inr o ↦ elim o [ inl l ↦ absurd (k.2 i l h.1) | inr l ↦ absurd (h.2 j l k.1) ]
-  ]
 
   one_first : (f : ℤ → AnyValue) (a b s t : ℤ) → FirstAt f a b s → FirstAt f a b t → s ≡ t
   one_first f a b s t h k =
@@ -57,12 +41,6 @@ bytes_are z i (Some x) h = h
 module _ (y z : Zones) where
   pub name_decided : (i : ℕ) (r q : Option (Bor (List ℕ))) (t : Bool) → NameIs y i r → NameIs z i q → Decides t (seen r ≡ seen q) → Decides t (Alike y z (Name i))
   name_decided i r q t h k d = decides (BytesAre y i) (BytesAre z i) (one_name y i) (one_name z i) (seen r) (seen q) (bytes_are y i r h) (bytes_are z i q k) t d
-
-  pub found_decided : (n : List ℕ) (r q : Option ℕ) (t : Bool) → FoundIs y n r → FoundIs z n q → Decides t (r ≡ q) → Decides t ((x : Option ℕ) → FoundIs y n x → FoundIs z n x)
-  found_decided n r q t h k d = decides (FoundIs y n) (FoundIs z n) (one_found y n) (one_found z n) r q h k t d
-
-  pub value_decided : (i : ℕ) (s : ℤ) (r q : Option AnyValue) (t : Bool) → ValueIs y i s r → ValueIs z i s q → Decides t (r ≡ q) → Decides t (Alike y z (Value i s))
-  value_decided i s r q t h k d = decides (ValueIs y i s) (ValueIs z i s) (one_value y i s) (one_value z i s) r q h k t d
 
   pub change_decided : (i : ℕ) (a b : ℤ) (r q : Option ℤ) (t : Bool) → ChangeIs y i a b r → ChangeIs z i a b q → Decides t (r ≡ q) → Decides t (Alike y z (Change i a b))
   change_decided i a b r q t h k d = decides (ChangeIs y i a b) (ChangeIs z i a b) (one_change y i a b) (one_change z i a b) r q h k t d
