@@ -1,1 +1,9 @@
+pub mod ByDay
+pub mod Days
+pub mod Hebrew
 pub mod Known
+pub mod Meetings
+pub mod Moves
+pub mod Reaching
+pub mod Uncut
+pub mod Zones

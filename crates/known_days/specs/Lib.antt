@@ -1,1 +1,3 @@
+pub mod Days
 pub mod Known
+pub mod Moves

@@ -1,2 +1,2 @@
 pub mod Enterables
-pub mod Rounding
+pub mod Searches

@@ -1,6 +1,7 @@
 use Rattle.std.proofs.Common.{refl}
 use Rattle.hebrew.specs.Calendar.{year_start, new_year}
-use Rattle.known_days.proofs.Known.{gregorian_day, hebrew_day, known_days}
+use Rattle.known_days.proofs.Days.{gregorian_day, hebrew_day}
+use Rattle.known_days.proofs.Known.{known_days}
 use Rattle.known_days.proofs.known_days_hold.Goals as goal
 
 -- the example is computed from the numbers in the contract, whatever they are

@@ -1,0 +1,11 @@
+pub mod Answered
+pub mod Carries
+pub mod Limits
+pub mod Measured
+pub mod Measures
+pub mod Meetings
+pub mod Order
+pub mod Parting
+pub mod Reaches
+pub mod Splits
+pub mod Steps
