@@ -87,24 +87,27 @@ class Board:
         return None
 
 
-def main(pair, script, answers):
+def calls(script, answers):
+    """Gives each call of a script but `list`, with its answer and the row of a carry or a measure."""
     with open(script, "rb") as f:
         lines = f.read(16384).decode("latin-1").removesuffix("\n").split("\n")
     with open(answers, encoding="latin-1", newline="\n") as f:
         told = iter(f.read().removesuffix("\n").split("\n"))
     board = Board()
-    printed = set()
     for line in lines:
         if line == "list":
             board.listed(told)
-            continue
-        row = board.call(line, next(told))
-        if row and row not in printed:
-            printed.add(row)
-            (instant, zone, calendar), asked, argument, answer = row
-            print(pair, zone, calendar, instant, asked, argument, answer, sep="\t")
+        else:
+            answer = next(told)
+            yield line, answer, board.call(line, answer)
     if next(told, None) is not None:
         sys.exit("there are more answers than calls")
+
+
+def main(pair, script, answers):
+    rows = [row for _, _, row in calls(script, answers) if row]
+    for (instant, zone, calendar), asked, argument, answer in dict.fromkeys(rows):
+        print(pair, zone, calendar, instant, asked, argument, answer, sep="\t")
 
 
 if __name__ == "__main__":

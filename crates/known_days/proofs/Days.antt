@@ -61,6 +61,7 @@ gregorian_days = record {
   march_1900 = gregorian_day tt refl;
   leap_400 = gregorian_day tt refl;
   leap_2000 = gregorian_day tt refl;
+  new_year_2000 = gregorian_day tt refl;
   march_2024 = gregorian_day tt refl;
   march_2025 = gregorian_day tt refl;
 }
@@ -70,6 +71,7 @@ unfolding year_start new_year
 hebrew_days = record {
   first = hebrew_day tt refl;
   last = hebrew_day tt refl;
+  new_year_2000 = hebrew_day tt refl;
   deficient = record { first = hebrew_day tt refl; last = hebrew_day tt refl; next = hebrew_day tt refl; long = refl; days = refl };
   regular = record { first = hebrew_day tt refl; last = hebrew_day tt refl; next = hebrew_day tt refl; long = refl; days = refl };
   complete = record { first = hebrew_day tt refl; last = hebrew_day tt refl; next = hebrew_day tt refl; long = refl; days = refl };

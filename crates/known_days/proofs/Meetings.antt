@@ -38,6 +38,7 @@ gap = record {
     past = past (offset (test_h (pos 1000000))) (stretches (pos 1000000));
     first = λ t l h. upto t (offset (test_h t)) (stretches t) h;
   };
+  inside = omega (arith, ints);
   is = from_before (offset (test_h (pos 999999))) (stretches (pos 999999));
 }
 

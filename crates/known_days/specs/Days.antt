@@ -37,12 +37,14 @@ pub record GregorianDays : Type 0 where
   -- years 400 and 2000 have one
   pub leap_400 : GregorianDay 145791 400 2 29
   pub leap_2000 : GregorianDay 730179 2000 2 29
+  pub new_year_2000 : GregorianDay 730120 2000 1 1
   pub march_2024 : GregorianDay 738955 2024 3 10
   pub march_2025 : GregorianDay 739339 2025 3 29
 
 pub record HebrewDays : Type 0 where
   pub first : HebrewDay 1 3761 4 18
   pub last : HebrewDay 3652059 13760 2 28
+  pub new_year_2000 : HebrewDay 730120 5760 4 23
   -- a year of each length: common years of 12 months, then leap years of 13
   pub deficient : HebrewYear 5781 353 12 737687 738039
   pub regular : HebrewYear 5786 354 12 739517 739870

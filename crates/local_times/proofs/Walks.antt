@@ -108,6 +108,7 @@ module _ (f : Zone) (l a p : ℤ) (done : (l +ℤ pos 86400) ≤ℤ a) where
           none = λ t h. w.landing.0 t h.0 (omega (arith, ints));
           j = r.j;
           from = record { within = omega (arith, ints); past = r.past; first = r.first };
+          inside = r.after;
           is = r.is;
         }),
       )

@@ -31,6 +31,8 @@ pub record Skipped (f : Zone) (l i : ℤ) : Type 0 where
   pub none : (t : ℤ) → Window l t → local_at f t ≡ l → ⊥
   pub j : ℤ
   pub from : Past f l j
+  -- so the second before j lies in the window too
+  pub inside : low l <ℤ j
   pub is : i ≡ l -ℤ offset (f (j -ℤ pos 1))
 
 -- t is the earliest blank of the window

@@ -1,6 +1,7 @@
 // Local times of instants, and the meeting of a local time with a zone.
-ghost use Rattle.std.specs.Prelude.{◌≡◌, ◌≤◌, false, ◌+ℤ◌, ◌*ℤ◌, ◌≤ℤ◌, pos, negsuc, Err, MatchResult, MatchOption};
-ghost use Rattle.local_times.specs.Locals.{offset_at, arriving, count_of, met_at, is_local_time, Shows, MeetsAt};
+ghost use Rattle.std.specs.Prelude.{◌≡◌, ◌≤◌, false, ◌+ℤ◌, ◌*ℤ◌, ◌≤ℤ◌, pos, negsuc, Err, IfOk, MatchResult, MatchOption};
+ghost use Rattle.local_times.specs.Locals.{offset_at, arriving, count_of, second_of, met_at, is_local_time, Shows, MeetsAt};
+ghost use Rattle.local_times.specs.Meeting.{Near};
 ghost use Rattle.local_times.specs.Walk.{LocalFits};
 
 use crate::local_time::LocalTime;
@@ -12,7 +13,7 @@ use timebase::splits::floor_split;
 use zone::source::ZoneSource;
 
 // The day number of 1970-01-01.
-const EPOCH_DAY: i64 = 719_163;
+pub const EPOCH_DAY: i64 = 719_163;
 
 // The number of the last day, and the last second of a day and microsecond of a second.
 const DAY_LAST: u32 = 3_652_059;
@@ -104,6 +105,7 @@ impl<Z: ZoneSource> ZoneAt<'_, Z> {
     pub fn meet(&self, local: LocalTime) -> Result<i64, Fault>
         ensures value { result ≡ met_at ((Z.ZoneSource.zones self.now.source.now).value self.now.number) (pos local.day) local.clock local.micros }
         ensures law { MeetsAt ((Z.ZoneSource.zones self.now.source.now).value self.now.number) local result }
+        ensures near { IfOk result (λ i. Near (count_of (pos local.day) local.clock) (second_of i)) }
     {
         let second = self.meet_second(local.seconds())?;
         Ok(instant_of(second, local.micros))

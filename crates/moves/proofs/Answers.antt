@@ -1,5 +1,5 @@
 -- What the calls answer from instants that are known.
-use Rattle.std.proofs.Common.{◌≡◌, ℕ, ◌≤◌, Bool, true, false, cond, ◌&&◌, ℤ, pos, ◌+ℤ◌, ◌*ℤ◌, ◌≤ℤ◌, IfOk, Some, None, Ok, Err, Option, Result, MatchOption, sym, refl, ap, ◌∙◌, subst, arith}
+use Rattle.std.proofs.Common.{◌≡◌, ℕ, ◌≤◌, Bool, true, false, cond, ◌&&◌, ℤ, pos, ◌+ℤ◌, ◌*ℤ◌, ◌≤ℤ◌, IfOk, IsOk, Some, None, Ok, Err, Option, Result, MatchOption, sym, refl, ap, ◌∙◌, subst, arith}
 use Rattle.std.proofs.lemmas.Int.{ints}
 use Rattle.std.proofs.lemmas.Bool.{and_from, le-leb, cond-true}
 use Rattle.timebase.specs.declared.fault.Fault.{Fault}
@@ -83,3 +83,7 @@ module _ (zone : Zone) (c : Calendar) where
   pub truly : ZoneLaws zone → CalendarLaws c → (unit : Measure) (a b : ℤ) (r : Result Span Fault) → r ≡ measure_answer zone c unit a b → IfOk r (λ s. TrueSpan zone c unit a b s)
   truly zl cl unit a b (Ok s) e = spans_are_true zone c zl cl unit a b s (sym e)
   truly zl cl unit a b (Err x) e = tt
+
+  -- between instants of this zone's marks it is accepted
+  pub accepted : (unit : Measure) (a b : ℤ) (r : Result Span Fault) → r ≡ measure_answer zone c unit a b → Known zone a → Known zone b → IsOk r
+  accepted unit a b r e ka kb = subst IsOk (measure_is unit a b (cond (is a b) no_span (measured_by zone a (way_between a b) b c unit)) ka kb refl ∙ sym e) refl

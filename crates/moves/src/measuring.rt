@@ -1,5 +1,5 @@
 // Measuring the span from one instant to another.
-ghost use Rattle.std.specs.Prelude.{◌≡◌, ◌≤◌, cond, pos, ◌+ℤ◌, ◌≤ℤ◌, IfOk};
+ghost use Rattle.std.specs.Prelude.{◌≡◌, ◌≤◌, cond, pos, ◌+ℤ◌, ◌≤ℤ◌, IfOk, IsOk};
 ghost use Rattle.local_times.specs.Locals.{Known};
 ghost use Rattle.local_times.specs.Meeting.{is};
 ghost use Rattle.span_law.specs.Carrying.{natural};
@@ -68,10 +68,11 @@ impl<Z: ZoneSource, C: CalendarSource> Setting<'_, Z, C> {
         }
     }
 
-    // The span from one instant to another by a unit; refused where either is no instant of this zone. Carried from the first,
-    // it arrives at the second.
+    // The span from one instant to another by a unit; refused exactly where either is no instant of this zone's marks. Carried
+    // from the first, it arrives at the second.
     pub fn measure(&self, unit: Unit, a: i64, b: i64) -> Result<Span, Fault>
         ensures value { result ≡ measure_answer ((Z.ZoneSource.zones self.now.zone.source.now).value self.now.zone.number) ((C.CalendarSource.calendars self.now.calendar.source.now).calendar self.now.calendar.number) unit a b }
+        ensures accepted { Known ((Z.ZoneSource.zones self.now.zone.source.now).value self.now.zone.number) a → Known ((Z.ZoneSource.zones self.now.zone.source.now).value self.now.zone.number) b → IsOk result }
         ensures law { IfOk result (λ s. TrueSpan ((Z.ZoneSource.zones self.now.zone.source.now).value self.now.zone.number) ((C.CalendarSource.calendars self.now.calendar.source.now).calendar self.now.calendar.number) unit a b s) }
     {
         let start = Start::new(&self.zone, a)?;

@@ -32,23 +32,23 @@ is_either : {Else : Type 0} (b x : ℕ) (test : Bool) → (Else → test ≡ tru
 is_either b x test or_else (inl e) = or_left (eqb b x) test (eq-eqb b x e)
 is_either b x test or_else (inr t) = or_right (eqb b x) test (or_else t)
 
-first_of : (b : ℕ) → is_first_of_zone_name b ≡ true → FirstOfZoneName b
+pub first_of : (b : ℕ) → is_first_of_zone_name b ≡ true → FirstOfZoneName b
 first_of b h = elim (or_cases (is_letter b) _ h) [
   | inl l ↦ inl (letter b l)
   | inr t ↦ inr (either b 95 _ (eqb-true b 46) t)
 ]
 
-is_first_of : (b : ℕ) → FirstOfZoneName b → is_first_of_zone_name b ≡ true
+pub is_first_of : (b : ℕ) → FirstOfZoneName b → is_first_of_zone_name b ≡ true
 is_first_of b (inl l) = or_left (is_letter b) _ (is_a_letter b l)
 is_first_of b (inr t) = or_right (is_letter b) _ (is_either b 95 _ (eq-eqb b 46) t)
 
-inside : (b : ℕ) → is_in_zone_name b ≡ true → InZoneName b
+pub inside : (b : ℕ) → is_in_zone_name b ≡ true → InZoneName b
 inside b h = elim (or_cases (is_letter_or_digit b) _ h) [
   | inl l ↦ inl (letter_or_digit b l)
   | inr t ↦ inr (either b 46 _ (either b 95 _ (either b 45 _ (either b 43 _ (eqb-true b 47)))) t)
 ]
 
-is_inside : (b : ℕ) → InZoneName b → is_in_zone_name b ≡ true
+pub is_inside : (b : ℕ) → InZoneName b → is_in_zone_name b ≡ true
 is_inside b (inl l) = or_left (is_letter_or_digit b) _ (is_a_letter_or_digit b l)
 is_inside b (inr t) = or_right (is_letter_or_digit b) _ (is_either b 46 _ (is_either b 95 _ (is_either b 45 _ (is_either b 43 _ (eq-eqb b 47)))) t)
 

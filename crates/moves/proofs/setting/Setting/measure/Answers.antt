@@ -1,4 +1,4 @@
-use Rattle.std.proofs.Common.{◌≡◌, ℤ, cond, Ok, ap, ◌∙◌, subst, arith, w64, to_z, of_z}
+use Rattle.std.proofs.Common.{◌≡◌, refl, ℤ, cond, Ok, ap, ◌∙◌, subst, arith, w64, to_z, of_z}
 use Rattle.std.proofs.lemmas.Int.{ints}
 use Rattle.local_times.specs.Locals.{Known}
 use Rattle.local_times.specs.Meeting.{is}
@@ -30,4 +30,4 @@ returns g c =
     ∙ ap (λ (y : ℤ). cond (is a y) no_span (measured_by f a (way_between a y) y k c.args.unit)) ee) in
     let zl = (g.met.Z.ZoneSource.lawful c.args.self.now.zone.source.now).each c.args.self.now.zone.number in
     let cl = (g.met.C.CalendarSource.lawful c.args.self.now.calendar.source.now).each c.args.self.now.calendar.number c.args.self.now.calendar.there in
-    record { value = is; law = truly f k zl cl c.args.unit a b (Ok c.span_from.result) is }
+    record { value = is; accepted = λ _ _. refl; law = truly f k zl cl c.args.unit a b (Ok c.span_from.result) is }

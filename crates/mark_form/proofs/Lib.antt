@@ -1,0 +1,5 @@
+pub mod Answering
+pub mod Complete
+pub mod Live
+pub mod Sound
+pub mod Tagging

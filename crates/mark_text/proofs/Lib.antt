@@ -1,0 +1,9 @@
+pub mod Answered
+pub mod Dates
+pub mod Forms
+pub mod Lookups
+pub mod Named
+pub mod Parts
+pub mod Tells
+pub mod Told
+pub mod Trips

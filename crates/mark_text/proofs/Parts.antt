@@ -1,0 +1,90 @@
+-- Where the parts of a mark text stand: inside it.
+use Rattle.std.proofs.Common.{◌≡◌, ℕ, suc, ◌+◌, ◌<◌, ◌≤◌, Bool, true, false, cond, List, [], ◌∷◌, ◌++◌, length, drop, IfSome, Some, None, Option, sym, refl, ap, ◌∙◌, subst, arith}
+use Rattle.std.proofs.lemmas.List.{length-drop, length-append}
+use Rattle.std.specs.Prelude.{codes}
+use Rattle.mark_form.specs.declared.draft.Draft.{Draft}
+use Rattle.mark_form.specs.declared.layout.Layout.{Layout}
+use Rattle.mark_form.specs.declared.layout.Part.{Part}
+use Rattle.mark_form.specs.declared.layout.Tags.{Tags}
+use Rattle.mark_form.specs.Drafts.{DraftText, draft_of, said_at}
+use Rattle.mark_form.specs.Grammar.{MarkText, Fits}
+use Rattle.mark_form.specs.TagLaws.{TagAt, TagList, TagsSaid, first_calendar, is_calendar, value_of}
+use Rattle.mark_form.proofs.Answering.{sign_low}
+use Rattle.mark_text.specs.Fields.{SignFits}
+
+fits_length : (ks bs : List ℕ) → Fits ks bs → length bs ≡ length ks
+fits_length [] [] h = refl
+fits_length [] (b ∷ bs) h = absurd h
+fits_length (k ∷ ks) [] h = absurd h
+fits_length (k ∷ ks) (b ∷ bs) h = ap suc (fits_length ks bs h.1)
+
+-- a part that stands inside a text
+abbrev pub Inside : List ℕ → Part → Type 0
+Inside t p = (p.from ≤ p.to) × (p.to ≤ length t)
+
+-- a layout's name stands inside, with a byte after it
+pub name_inside : (t : List ℕ) (l : Layout) → MarkText t l → (l.name.from ≤ l.name.to) × (l.name.to + 1 ≤ length t)
+name_inside t l m =
+    let a = length-append m.clock (m.fraction ++ (m.offset ++ (91 ∷ (m.bang ++ (m.name ++ (93 ∷ m.tags)))))) in
+    let b = length-append m.fraction (m.offset ++ (91 ∷ (m.bang ++ (m.name ++ (93 ∷ m.tags))))) in
+    let c = length-append m.offset (91 ∷ (m.bang ++ (m.name ++ (93 ∷ m.tags)))) in
+    let d = length-append m.bang (m.name ++ (93 ∷ m.tags)) in
+    let e = length-append m.name (93 ∷ m.tags) in
+    let k : length m.clock ≡ 19 = fits_length (codes "0000-00-00T00:00:00") m.clock m.clock_text in
+    let f = ap length m.is in
+    (omega (arith, m.name_to), omega (arith, a, b, c, d, e, k, f, m.sign_place, m.name_from, m.name_to))
+
+sign_by : (t : List ℕ) (s : ℕ) (b : Bool) → s < 90 → IfSome (cond b None (Some (said_at t s))) (λ x. x.sign < 90)
+sign_by t s true h = tt
+sign_by t s false h = h
+
+sign_of : (t : List ℕ) (l : Layout) → l.sign < 90 → SignFits (draft_of t l)
+unfolding draft_of
+sign_of t l h = sign_by t l.sign _ h
+
+name_of : (t : List ℕ) (l : Layout) → (draft_of t l).name ≡ l.name
+unfolding draft_of
+name_of t l = refl
+
+pub sign_fits : (t : List ℕ) (d : Draft) → DraftText t d → SignFits d
+sign_fits t d x = subst SignFits (sym x.says) (sign_of t x.layout (sign_low t x.layout x.text))
+
+-- the name of a draft
+pub draft_name : (t : List ℕ) (d : Draft) → DraftText t d → (d.name.from ≤ d.name.to) × (d.name.to + 1 ≤ length t)
+draft_name t d x = subst (λ (p : Part). (p.from ≤ p.to) × (p.to + 1 ≤ length t)) (sym (ap (λ (y : Draft). y.name) x.says ∙ name_of t x.layout)) (name_inside t x.layout x.text)
+
+-- a tag's value ends by a place
+abbrev EndsBy : ℕ → TagAt → Type 0
+EndsBy n g = (g.value.from ≤ g.value.to) × (g.value.to ≤ n)
+
+later : (o : Option TagAt) (m n : ℕ) → m ≤ n → IfSome o (EndsBy m) → IfSome o (EndsBy n)
+later None m n h e = tt
+later (Some g) m n h (a, b) = (a, omega arith)
+
+-- the value of the first u-ca among tags from a place on
+value_inside : {at : ℕ} {xs : List ℕ} {ts : List TagAt} → TagList at xs ts → IfSome (first_calendar ts) (EndsBy (at + length xs))
+value_inside TagList.none = tt
+value_inside (TagList.tag {at = at} {from = from} {to = to} {c = c} {e = e'} k {v = v} {xs = xs} {ts = ts} b y z ef et rest) =
+    let all = 91 ∷ (e' ++ (k ++ (61 ∷ (v ++ (93 ∷ xs))))) in
+    let l1 = length-append e' (k ++ (61 ∷ (v ++ (93 ∷ xs)))) in
+    let l2 = length-append k (61 ∷ (v ++ (93 ∷ xs))) in
+    let l3 = length-append v (93 ∷ xs) in
+    let g : TagAt = record { bracket = at; critical = c; key = k; value = record { from = from; to = to } } in
+    let here : EndsBy (at + length all) g = (omega (arith, et), omega (arith, l1, l2, l3, ef, et)) in
+    let there : IfSome (first_calendar ts) (EndsBy (at + length all)) = later (first_calendar ts) ((to + 1) + length xs) (at + length all) (omega (arith, l1, l2, l3, ef, et)) (value_inside rest) in
+    by (is_calendar g) (first_calendar ts) g (at + length all) here there
+  where
+    by : (t : Bool) (o : Option TagAt) (g : TagAt) (n : ℕ) → EndsBy n g → IfSome o (EndsBy n) → IfSome (cond t (Some g) o) (EndsBy n)
+    by true o g n h k = h
+    by false o g n h k = k
+
+value_part : (t : List ℕ) (o : Option TagAt) → IfSome o (EndsBy (length t)) → IfSome (value_of o) (Inside t)
+value_part t None h = tt
+value_part t (Some g) h = h
+
+-- the value of a draft's first u-ca
+pub calendar_inside : (t : List ℕ) (n : ℕ) (g : Tags) → n + 1 ≤ length t → TagsSaid t n g → IfSome g.calendar (Inside t)
+calendar_inside t n g h s =
+    let d = length-drop (n + 1) t in
+    subst (λ (o : Option Part). IfSome o (Inside t)) (sym s.calendar)
+    (value_part t (first_calendar s.tags) (later (first_calendar s.tags) ((n + 1) + length (drop (n + 1) t)) (length t) (omega (arith, d)) (value_inside s.there)))

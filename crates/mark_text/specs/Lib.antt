@@ -1,0 +1,5 @@
+pub mod Fields
+pub mod Marks
+pub mod Meanings
+pub mod Reading
+pub mod Shown

@@ -1,0 +1,34 @@
+// Writing a mark.
+ghost use Rattle.std.specs.Prelude.{◌≡◌, Err, Decides};
+ghost use Rattle.timebase.specs.declared.fault.Fault.TheVariants.{SlotEmpty};
+ghost use Rattle.mark_text.specs.Marks.{IsThere};
+ghost use Rattle.mark_text.specs.Shown.{Written};
+
+use crate::mark::Mark;
+use crate::stamping::stamp_of;
+use calendar::source::CalendarSource;
+use mark_writing::write::write_stamp;
+use timebase::fault::Fault;
+use zone::source::ZoneSource;
+
+// Whether a mark is there: whether a text can enter it.
+pub fn is_there<Z: ZoneSource, C: CalendarSource>(zones: &Z, calendars: &C, mark: &Mark) -> bool
+    ensures { Decides result (IsThere (Z.ZoneSource.zones zones.now) (C.CalendarSource.calendars calendars.now) mark.now) }
+{
+    stamp_of(zones, calendars, mark).is_some()
+}
+
+// Writes the canonical text of a mark at the start of the buffer, and answers its length. A mark that isn't there is refused
+// as the empty slot that it is, by 2, and then a buffer under 96 bytes by 13; nothing is written then.
+pub fn write_mark<Z: ZoneSource, C: CalendarSource>(
+    zones: &Z,
+    calendars: &C,
+    mark: &Mark,
+    out: &mut [u8],
+) -> Result<usize, Fault>
+    ensures absent { (IsThere (Z.ZoneSource.zones zones.now) (C.CalendarSource.calendars calendars.now) mark.now → ⊥) → (result ≡ Err (SlotEmpty 0)) × (out.new ≡ out.old) }
+    ensures there { IsThere (Z.ZoneSource.zones zones.now) (C.CalendarSource.calendars calendars.now) mark.now → Written (Z.ZoneSource.zones zones.now) (C.CalendarSource.calendars calendars.now) mark.now out.old result out.new }
+{
+    let stamp = stamp_of(zones, calendars, mark).ok_or(Fault::SlotEmpty { slot: 0 })?;
+    write_stamp(&stamp, out)
+}

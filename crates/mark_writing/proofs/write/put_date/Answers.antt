@@ -1,0 +1,8 @@
+use Rattle.writing.proofs.Puttings.{puts_more}
+use Rattle.mark_writing.specs.Canonical.{date_text}
+use Rattle.mark_writing.proofs.write.put_date.Goals as goal
+
+pub returns : goal.returns
+unfolding date_text
+returns c =
+    puts_more (puts_more (puts_more (puts_more (puts_more c.put_two.ensures c.put_two-2.ensures) c.put_byte.ensures) c.put_two-3.ensures) c.put_byte-2.ensures) c.put_two-4.ensures
