@@ -8,10 +8,8 @@ use Rattle.zone.specs.declared.value.Value.{Value}
 use Rattle.zone.specs.declared.value.Value.TheVariants.{Offset, Blank}
 use Rattle.zone.specs.Zones.{Zone, ZoneLaws, SoundValue, is_blank, offset}
 use Rattle.local_times.specs.Meeting.{is, local_at, first_near, skipped, matched, known, meeting, Near}
+use Rattle.local_times.proofs.Results.{ok_same}
 use Rattle.local_times.proofs.Walks.{ok_err}
-
-ok_same : {A E : Type 0} {a b : A} → ◌≡◌ {A = Result A E} (Ok a) (Ok b) → a ≡ b
-ok_same h = cc
 
 pub offset_bounds : (v : Value) → SoundValue v → (negsuc 86398 ≤ℤ offset v) × (offset v ≤ℤ pos 86399)
 offset_bounds (Offset o) s = s

@@ -5,5 +5,7 @@ pub mod Lookups
 pub mod Named
 pub mod Parts
 pub mod Tells
+pub mod Texts
+pub mod There
 pub mod Told
 pub mod Trips

@@ -1,12 +1,11 @@
 -- The lowest number that bears a name, as a source finds it.
-use Rattle.std.proofs.Common.{◌≡◌, ◌≢◌, ℕ, zero, suc, ◌<◌, ◌≤◌, Bool, true, false, cond, List, Some, None, Option, MatchOption, IfOk, sym, refl, ap, ◌∙◌, ⊎_elim, arith}
-use Rattle.std.proofs.lemmas.Bool.{cases_lt}
+use Rattle.std.proofs.Common.{◌≡◌, ◌≢◌, ℕ, zero, suc, ◌<◌, ◌≤◌, Bool, true, false, cond, List, Some, None, Option, MatchOption, IfOk, sym, refl, ap, ◌∙◌, subst, ⊎_elim, arith}
+use Rattle.std.proofs.lemmas.Bool.{cases_lt, cond_both, both_ways}
 use Rattle.std.proofs.lemmas.Slice.Eq.{bytes_eq-Decides}
 use Rattle.std.specs.Str.{bytes_eq}
 use Rattle.std.specs.Prelude.{Decides, ok_or}
 use Rattle.timebase.specs.declared.fault.Fault.{Fault}
-use Rattle.mark_text.specs.Marks.{Lowest}
-use Rattle.mark_text.specs.Reading.{number_of}
+use Rattle.mark_text.specs.Marks.{Lowest, number_of}
 
 other_bytes : (t : Bool) (a b : List ℕ) → Decides t (a ≡ b) → a ≢ b → t ≡ false
 other_bytes true a b d n = absurd (n (d.0 refl))
@@ -49,6 +48,22 @@ module _ (name : ℕ → List ℕ) (n : List ℕ) where
   pub lowest_found : (c i : ℕ) → Lowest name c n i → number_of name c n ≡ Some i
   lowest_found c i l = one_bears c i l.there l.bears l.lowest
 
+  -- what is found bears the name, lowest; and where none is found, none bears it
+  number_told : (c : ℕ) → MatchOption (number_of name c n) ((k : ℕ) → k < c → name k ≢ n) (Lowest name c n)
+  number_told zero = λ k l. absurd (omega arith)
+  number_told (suc c) = by (number_of name c n) (number_told c)
+    where
+      by : (o : Option ℕ) → MatchOption o ((k : ℕ) → k < c → name k ≢ n) (Lowest name c n) → MatchOption (next c o) ((k : ℕ) → k < suc c → name k ≢ n) (Lowest name (suc c) n)
+      by (Some i) l = record { there = omega (arith, l.there); bears = l.bears; lowest = l.lowest }
+      by None h =
+          let same = bytes_eq-Decides (name c) n in
+          cond_both (bytes_eq (name c) n) (Some c) None (λ (o : Option ℕ). MatchOption o ((k : ℕ) → k < suc c → name k ≢ n) (Lowest name (suc c) n))
+          (λ t. record { there = omega arith; bears = same.0 t; lowest = h })
+          (λ f k l e. ⊎_elim (λ (m : k < c). h k m e) (λ (m : c ≤ k). let s : c ≡ k = omega arith in both_ways (bytes_eq (name c) n) f (same.1 (ap name s ∙ e))) (cases_lt k c))
+
+  pub number_lowest : (c i : ℕ) → number_of name c n ≡ Some i → Lowest name c n i
+  number_lowest c i e = subst (λ (o : Option ℕ). MatchOption o ((k : ℕ) → k < c → name k ≢ n) (Lowest name c n)) e (number_told c)
+
 -- what finding answers, at the bytes that were looked for
 pub answers : (name : ℕ → List ℕ) (c : ℕ) (n m : List ℕ) (r : Option ℕ) (e : Fault) → n ≡ m → MatchOption r ((k : ℕ) → k < c → name k ≢ n) (λ i. (i < c) × (name i ≡ n) × ((k : ℕ) → k < i → name k ≢ n)) → ok_or r e ≡ ok_or (number_of name c m) e
 answers name c n m r e f h = ap (λ (o : Option ℕ). ok_or o e) (found_is name n c r h ∙ ap (number_of name c) f)
@@ -56,3 +71,6 @@ answers name c n m r e f h = ap (λ (o : Option ℕ). ok_or o e) (found_is name 
 -- a number that bears a name, lowest, bears its own name, lowest
 pub own : {name : ℕ → List ℕ} {c : ℕ} {n : List ℕ} {i : ℕ} → Lowest name c n i → Lowest name c (name i) i
 own l = record { there = l.there; bears = refl; lowest = λ k q e. l.lowest k q (e ∙ l.bears) }
+
+pub number_own : (name : ℕ → List ℕ) (n : List ℕ) (c i : ℕ) → number_of name c n ≡ Some i → Lowest name c (name i) i
+number_own name n c i e = own (number_lowest name n c i e)

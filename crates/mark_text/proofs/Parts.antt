@@ -1,5 +1,5 @@
 -- Where the parts of a mark text stand: inside it.
-use Rattle.std.proofs.Common.{◌≡◌, ℕ, suc, ◌+◌, ◌<◌, ◌≤◌, Bool, true, false, cond, List, [], ◌∷◌, ◌++◌, length, drop, IfSome, Some, None, Option, sym, refl, ap, ◌∙◌, subst, arith}
+use Rattle.std.proofs.Common.{◌≡◌, ℕ, ◌+◌, ◌<◌, ◌≤◌, Bool, true, false, cond, List, ◌∷◌, ◌++◌, length, drop, IfSome, Some, None, Option, sym, refl, ap, ◌∙◌, subst, arith}
 use Rattle.std.proofs.lemmas.List.{length-drop, length-append}
 use Rattle.std.specs.Prelude.{codes}
 use Rattle.mark_form.specs.declared.draft.Draft.{Draft}
@@ -7,16 +7,11 @@ use Rattle.mark_form.specs.declared.layout.Layout.{Layout}
 use Rattle.mark_form.specs.declared.layout.Part.{Part}
 use Rattle.mark_form.specs.declared.layout.Tags.{Tags}
 use Rattle.mark_form.specs.Drafts.{DraftText, draft_of, said_at}
-use Rattle.mark_form.specs.Grammar.{MarkText, Fits}
+use Rattle.mark_form.specs.Grammar.{MarkText}
 use Rattle.mark_form.specs.TagLaws.{TagAt, TagList, TagsSaid, first_calendar, is_calendar, value_of}
 use Rattle.mark_form.proofs.Answering.{sign_low}
+use Rattle.mark_form.proofs.Sound.{fits_length}
 use Rattle.mark_text.specs.Fields.{SignFits}
-
-fits_length : (ks bs : List ℕ) → Fits ks bs → length bs ≡ length ks
-fits_length [] [] h = refl
-fits_length [] (b ∷ bs) h = absurd h
-fits_length (k ∷ ks) [] h = absurd h
-fits_length (k ∷ ks) (b ∷ bs) h = ap suc (fits_length ks bs h.1)
 
 -- a part that stands inside a text
 abbrev pub Inside : List ℕ → Part → Type 0

@@ -31,8 +31,8 @@ use Rattle.mark_trip.specs.RoundTrip.{part_of, part_in, said_seconds, ReadsBack}
 use Rattle.mark_text.specs.declared.fields.Fields.{Fields}
 use Rattle.mark_text.specs.declared.mark.Mark.{Mark}
 use Rattle.mark_text.specs.Fields.{date_of, wrong_date, day_said, clock_said, shift_said, offset_said, fields_said, instant_said}
-use Rattle.mark_text.specs.Marks.{IsThere, Lowest}
-use Rattle.mark_text.specs.Reading.{number_of, zone_said, calendar_meant, calendar_place, calendar_said, agreed, read_answer}
+use Rattle.mark_text.specs.Marks.{IsThere, Lowest, number_of}
+use Rattle.mark_text.specs.Reading.{zone_said, calendar_meant, calendar_place, calendar_said, agreed, read_answer}
 use Rattle.mark_text.specs.Shown.{ShownBy}
 use Rattle.mark_text.proofs.Answered.{answered}
 use Rattle.mark_text.proofs.Dates.{numbered}
@@ -93,7 +93,7 @@ known_by : (v : Value) → is_blank v ≡ false → offset_known v ≡ Ok (offse
 known_by (Offset o) e = refl
 known_by (Blank c d) e = let z : ◌≡◌ {A = ℕ} 0 1 = cc in absurd (omega arith)
 
-in_range : (i : ℤ) → first_instant ≤ℤ i → i ≤ℤ last_instant → is_instant i ≡ true
+pub in_range : (i : ℤ) → first_instant ≤ℤ i → i ≤ℤ last_instant → is_instant i ≡ true
 in_range i l h = and_from _ _ (low first_instant i l) (low i last_instant h)
   where
     low : (x y : ℤ) → x ≤ℤ y → le_z x y ≡ true

@@ -1,6 +1,5 @@
 -- The mark that a text says over two sources, or why it says none.
-use Rattle.std.specs.Prelude.{ℕ, zero, suc, cond, List, length, ℤ, Some, None, Ok, Err, codes, Option, Result, ok_or}
-use Rattle.std.specs.Str.{bytes_eq}
+use Rattle.std.specs.Prelude.{ℕ, cond, List, length, ℤ, Some, None, Ok, Err, codes, Option, Result, ok_or}
 use Rattle.timebase.specs.declared.fault.Fault.{Fault}
 use Rattle.timebase.specs.declared.fault.Fault.TheVariants.{Unreadable, CriticalTag, UnknownZone, UnknownCalendar, OffsetDenied}
 use Rattle.reading.specs.declared.Misread.{Misread}
@@ -16,16 +15,12 @@ use Rattle.mark_form.specs.Drafts.{read_draft}
 use Rattle.mark_trip.specs.RoundTrip.{part_of}
 use Rattle.mark_text.specs.declared.mark.Mark.{Mark}
 use Rattle.mark_text.specs.Fields.{fields_said, instant_said}
+use Rattle.mark_text.specs.Marks.{number_of}
 
 -- what is found, where the text is in form
 abbrev pub or_unreadable : {V : Type 0} → Result V Misread → Result V Fault
 or_unreadable (Ok v) = Ok v
 or_unreadable (Err m) = Err (Unreadable m.at)
-
--- the lowest number below a count that bears a name
-abbrev pub number_of : (ℕ → List ℕ) → ℕ → List ℕ → Option ℕ
-number_of name zero n = None
-number_of name (suc k) n = elim (number_of name k n) [ Some i ↦ Some i | None ↦ cond (bytes_eq (name k) n) (Some k) None ]
 
 -- no tag is refused
 abbrev pub tags_said : Tags → Result (Unit {0}) Fault

@@ -7,6 +7,8 @@ use Rattle.iso8601.specs.Gregorian.{gregorian_years}
 use Rattle.zone.specs.Zones.{Zones, offset}
 use Rattle.calendar.specs.Calendars.{Calendars}
 use Rattle.local_times.specs.Locals.{second_of, micros_of, local_day, clock_second}
+use Rattle.writing.specs.declared.Writer.{Writer}
+use Rattle.writing.specs.Putting.{Puts}
 use Rattle.mark_writing.specs.declared.stamp.Stamp.{Stamp}
 use Rattle.mark_writing.specs.Canonical.{mark_text}
 use Rattle.mark_text.specs.declared.mark.Mark.{Mark}
@@ -31,6 +33,13 @@ pub record Canonical (zs : Zones) (cs : Calendars) (m : Mark) (t : List ℕ) : T
   pub shown : ShownBy zs cs m stamp
   pub is : t ≡ mark_text stamp
 
+-- t is the one canonical text of the mark, and reading it gives the mark
+pub record TextOf (zs : Zones) (cs : Calendars) (m : Mark) (t : List ℕ) : Type 0 where
+  pub short : length t ≤ 92
+  pub canonical : Canonical zs cs m t
+  pub alone : (u : List ℕ) → Canonical zs cs m u → u ≡ t
+  pub reads_back : read_answer zs cs t ≡ Ok m
+
 -- what writing a text into a buffer answers, and what the buffer holds after it: bytes past the text are as before
 abbrev pub text_answer : List ℕ → List ℕ → Result ℕ Fault
 text_answer t before = cond (nat_lt (length before) 96) (Err BufferSmall) (Ok (length t))
@@ -38,12 +47,15 @@ text_answer t before = cond (nat_lt (length before) 96) (Err BufferSmall) (Ok (l
 abbrev pub text_memory : List ℕ → List ℕ → List ℕ
 text_memory t before = cond (nat_lt (length before) 96) before (t ++ drop (length t) before)
 
--- a mark was written, or there was no room: the text is its one canonical text, and reading that gives the mark
+-- a mark was written, or there was no room
 pub record Written (zs : Zones) (cs : Calendars) (m : Mark) (before : List ℕ) (answer : Result ℕ Fault) (after : List ℕ) : Type 0 where
   pub text : List ℕ
-  pub short : length text ≤ 92
-  pub canonical : Canonical zs cs m text
-  pub alone : (u : List ℕ) → Canonical zs cs m u → u ≡ text
-  pub reads_back : read_answer zs cs text ≡ Ok m
+  pub of_mark : TextOf zs cs m text
   pub answered : answer ≡ text_answer text before
   pub holds : after ≡ text_memory text before
+
+-- a mark was put, as much of its text as fits
+pub record PutsMark (zs : Zones) (cs : Calendars) (m : Mark) (before after : Writer) : Type 0 where
+  pub text : List ℕ
+  pub of_mark : TextOf zs cs m text
+  pub puts : Puts before text after

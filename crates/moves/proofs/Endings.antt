@@ -14,7 +14,8 @@ use Rattle.span_law.specs.Standing.{Leads}
 use Rattle.span_law.specs.Carrying.{natural}
 use Rattle.span_law.specs.Measuring.{far_day, reach, days_apart, start_day, end_day, time_from, parts_by, span_of, measured_dates, measured_by}
 use Rattle.span_law.specs.Stepping.{signed}
-use Rattle.span_law.proofs.Reaches.{reach_none, met_far, far_inside, start_inside}
+use Rattle.local_times.proofs.Locals.{start_inside}
+use Rattle.span_law.proofs.Reaches.{reach_none, met_far, far_inside}
 use Rattle.span_law.proofs.Meetings.{met_range}
 
 -- a reach lies near the range of instants

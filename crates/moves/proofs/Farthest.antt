@@ -19,8 +19,10 @@ use Rattle.span_law.specs.Stepping.{signed}
 use Rattle.timebase.specs.Instants.{first_instant, last_instant}
 use Rattle.span_law.proofs.Steps.{within_is, none_some, some_same, false_true}
 use Rattle.span_law.proofs.Splits.{UpTo}
-use Rattle.span_law.proofs.Reaches.{offset_bounds, start_near, met_far}
-use Rattle.span_law.proofs.Meetings.{floor_day, floor_second, met_is}
+use Rattle.local_times.proofs.Locals.{floor_day, floor_second}
+use Rattle.local_times.proofs.Nearness.{offset_bounds}
+use Rattle.span_law.proofs.Reaches.{start_near, met_far}
+use Rattle.span_law.proofs.Meetings.{met_is}
 use Rattle.span_law.proofs.Measures.{up_to_between}
 
 module _ (zone : Zone) (a : ℤ) (way : Way) where

@@ -3,14 +3,14 @@ use Rattle.std.proofs.Common.{◌≡◌, ℕ, ◌+◌, ◌≤◌, true, cond, �
 use Rattle.std.proofs.lemmas.Bool.{and_parts, and_from, or_cases, or_left, or_right, leb-true, le-leb, eqb-true}
 use Rattle.reading.specs.declared.Misread.{Misread}
 use Rattle.reading.specs.Reading.{read_on}
-use Rattle.reading.specs.Places.{AnswersWithin}
+use Rattle.reading.specs.Places.{Answers, AnswersWithin}
 use Rattle.reading.proofs.Machines.{none_some, err_ok, cond_some, first_step, go, answers, answers_within}
 use Rattle.names.specs.declared.Progress.{Progress}
 use Rattle.names.specs.declared.Progress.TheVariants.{Begin, Run}
 use Rattle.names.specs.declared.InForm.{InForm}
 use Rattle.names.specs.Names.{LetterOrDigit, Runs, CalendarName}
 use Rattle.names.specs.Names.Runs.{last, more, join}
-use Rattle.names.specs.Scanning.{is_letter_or_digit, stepped, ended, read_calendar_name}
+use Rattle.names.specs.Scanning.{is_letter_or_digit, stepped, ended, scan_calendar_name, read_calendar_name}
 
 -- ── letters and digits ──
 
@@ -83,10 +83,11 @@ complete_from s a t v (more {b} {bs} l r) = go stepped ended s Run a b bs (lette
 complete_from s a t v (join {b} {bs} l r) =
     go stepped ended s Run a b (45 ∷ bs) (letter_step s a b l) ∙ (go stepped ended Run Begin (a + 1) 45 bs refl ∙ complete_from Begin (a + 1 + 1) bs v r)
 
+pub scan_answers : (name : List ℕ) → Answers CalendarName name (scan_calendar_name name)
+scan_answers name = answers stepped ended CalendarName live Begin (λ t v e. sound_begin 0 t v e) (λ t v x. complete_from Begin 0 t v x) name
+
 name_answers : (name : List ℕ) → AnswersWithin CalendarName 16 name (read_calendar_name name)
-name_answers name =
-    answers_within CalendarName 16 name (read_on stepped ended Begin 0 name)
-    (answers stepped ended CalendarName live Begin (λ t v e. sound_begin 0 t v e) (λ t v x. complete_from Begin 0 t v x) name)
+name_answers name = answers_within CalendarName 16 name (scan_calendar_name name) (scan_answers name)
 
 pub lawful : (name : List ℕ) (r : Result InForm Misread) → r ≡ read_calendar_name name
     → record { value : r ≡ read_calendar_name name; grammar : AnswersWithin CalendarName 16 name r }

@@ -3,14 +3,14 @@ use Rattle.std.proofs.Common.{◌≡◌, ℕ, ◌+◌, Bool, true, ◌&&◌, ◌
 use Rattle.std.proofs.lemmas.Bool.{or_cases, or_left, or_right, eqb-true, eq-eqb}
 use Rattle.reading.specs.declared.Misread.{Misread}
 use Rattle.reading.specs.Reading.{read_on}
-use Rattle.reading.specs.Places.{AnswersWithin}
+use Rattle.reading.specs.Places.{Answers, AnswersWithin}
 use Rattle.reading.proofs.Machines.{none_some, err_ok, cond_some, first_step, go, answers, answers_within}
 use Rattle.names.specs.declared.zone_form.ZoneProgress.{ZoneProgress}
 use Rattle.names.specs.declared.zone_form.ZoneProgress.TheVariants.{Begin, Inside}
 use Rattle.names.specs.declared.InForm.{InForm}
 use Rattle.names.specs.Scanning.{is_letter_or_digit}
 use Rattle.names.specs.ZoneNames.{Letter, FirstOfZoneName, InZoneName, AllInZoneName, IsZoneName}
-use Rattle.names.specs.ZoneScanning.{is_letter, is_first_of_zone_name, is_in_zone_name, zone_stepped as stepped, zone_ended as ended, read_zone_name}
+use Rattle.names.specs.ZoneScanning.{is_letter, is_first_of_zone_name, is_in_zone_name, zone_stepped as stepped, zone_ended as ended, scan_zone_name, read_zone_name}
 use Rattle.names.proofs.NameAnswers.{between, is_between, is_one as letter_or_digit, one_is as is_a_letter_or_digit}
 
 -- ── letters, by their tests ──
@@ -94,9 +94,11 @@ complete : (t : List ℕ) (v : InForm) → IsZoneName t v → read_on stepped en
 complete [] v x = absurd x
 complete (b ∷ bs) v (f, x) = go stepped ended Begin Inside 0 b bs (begin_step 0 b f) ∙ complete_inside 1 bs v x
 
+pub scan_answers : (name : List ℕ) → Answers IsZoneName name (scan_zone_name name)
+scan_answers name = answers stepped ended IsZoneName live Begin sound complete name
+
 name_answers : (name : List ℕ) → AnswersWithin IsZoneName 32 name (read_zone_name name)
-name_answers name =
-    answers_within IsZoneName 32 name (read_on stepped ended Begin 0 name) (answers stepped ended IsZoneName live Begin sound complete name)
+name_answers name = answers_within IsZoneName 32 name (scan_zone_name name) (scan_answers name)
 
 pub lawful : (name : List ℕ) (r : Result InForm Misread) → r ≡ read_zone_name name
     → record { value : r ≡ read_zone_name name; grammar : AnswersWithin IsZoneName 32 name r }

@@ -17,5 +17,9 @@ abbrev pub ended : Progress → Option InForm
 ended Begin = None
 ended Run = Some (record {})
 
+-- a name of any length
+abbrev pub scan_calendar_name : List ℕ → Result InForm Misread
+scan_calendar_name name = read_on stepped ended Begin 0 name
+
 abbrev pub read_calendar_name : List ℕ → Result InForm Misread
-read_calendar_name name = limited 16 (length name) (read_on stepped ended Begin 0 name)
+read_calendar_name name = limited 16 (length name) (scan_calendar_name name)

@@ -24,5 +24,9 @@ abbrev pub zone_ended : ZoneProgress → Option InForm
 zone_ended Begin = None
 zone_ended Inside = Some (record {})
 
+-- a name of any length
+abbrev pub scan_zone_name : List ℕ → Result InForm Misread
+scan_zone_name name = read_on zone_stepped zone_ended Begin 0 name
+
 abbrev pub read_zone_name : List ℕ → Result InForm Misread
-read_zone_name name = limited 32 (length name) (read_on zone_stepped zone_ended Begin 0 name)
+read_zone_name name = limited 32 (length name) (scan_zone_name name)

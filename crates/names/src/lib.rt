@@ -2,17 +2,17 @@
 #![tactic(auto)]
 
 ghost use Rattle.std.specs.Prelude.{◌≡◌};
-ghost use Rattle.reading.specs.Places.{AnswersWithin};
+ghost use Rattle.reading.specs.Places.{Answers, AnswersWithin};
 ghost use Rattle.names.specs.Names.{CalendarName};
-ghost use Rattle.names.specs.Scanning.{stepped, ended, read_calendar_name};
+ghost use Rattle.names.specs.Scanning.{stepped, ended, scan_calendar_name, read_calendar_name};
 
-use reading::{Misread, Scan, read_within};
+use reading::{Misread, Scan, read, read_within};
 
 mod zone_form;
 mod zone_name;
 mod zone_naming;
 
-pub use zone_form::{ZONE_NAME_LIMIT, read_zone_name};
+pub use zone_form::{ZONE_NAME_LIMIT, read_zone_name, scan_zone_name};
 pub use zone_name::ZoneName;
 
 // The most bytes of a calendar's name.
@@ -54,7 +54,15 @@ impl Scan for Progress {
     }
 }
 
-// Whether a calendar's name is in form, or where it goes wrong.
+// Whether a name of any length has the form of calendars' names, or where it goes wrong.
+pub fn scan_calendar_name(name: &[u8]) -> Result<InForm, Misread>
+    ensures value { result ≡ scan_calendar_name name.now }
+    ensures grammar { Answers CalendarName name.now result }
+{
+    read(Progress::Begin, name)
+}
+
+// Whether a calendar's name is in form and not too long, or where it goes wrong.
 pub fn read_calendar_name(name: &[u8]) -> Result<InForm, Misread>
     ensures value { result ≡ read_calendar_name name.now }
     ensures grammar { AnswersWithin CalendarName 16 name.now result }

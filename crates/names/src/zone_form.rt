@@ -1,11 +1,11 @@
 // The form of zones' names: a letter, `_` or `.`, then letters, digits, `.`, `_`, `-`, `+` and `/`.
 ghost use Rattle.std.specs.Prelude.{◌≡◌};
-ghost use Rattle.reading.specs.Places.{AnswersWithin};
+ghost use Rattle.reading.specs.Places.{Answers, AnswersWithin};
 ghost use Rattle.names.specs.ZoneNames.{IsZoneName};
-ghost use Rattle.names.specs.ZoneScanning.{is_first_of_zone_name, is_in_zone_name, zone_stepped, zone_ended, read_zone_name};
+ghost use Rattle.names.specs.ZoneScanning.{is_first_of_zone_name, is_in_zone_name, zone_stepped, zone_ended, scan_zone_name, read_zone_name};
 
 use crate::InForm;
-use reading::{Misread, Scan, read_within};
+use reading::{Misread, Scan, read, read_within};
 
 // The most bytes of a zone's name.
 pub const ZONE_NAME_LIMIT: usize = 32;
@@ -54,7 +54,15 @@ impl Scan for ZoneProgress {
     }
 }
 
-// Whether a zone's name is in form, or where it goes wrong.
+// Whether a name of any length has the form of zones' names, or where it goes wrong.
+pub fn scan_zone_name(name: &[u8]) -> Result<InForm, Misread>
+    ensures value { result ≡ scan_zone_name name.now }
+    ensures grammar { Answers IsZoneName name.now result }
+{
+    read(ZoneProgress::Begin, name)
+}
+
+// Whether a zone's name is in form and not too long, or where it goes wrong.
 pub fn read_zone_name(name: &[u8]) -> Result<InForm, Misread>
     ensures value { result ≡ read_zone_name name.now }
     ensures grammar { AnswersWithin IsZoneName 32 name.now result }

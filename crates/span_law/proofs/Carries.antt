@@ -21,7 +21,7 @@ use Rattle.span_law.specs.Stepping.{signed, day_on}
 use Rattle.std.specs.Prelude.{ok_or}
 use Rattle.timebase.specs.Instants.{first_instant, last_instant}
 use Rattle.span_law.proofs.Steps.{within_is, false_true}
-use Rattle.span_law.proofs.Reaches.{err_ok, ok_same}
+use Rattle.local_times.proofs.Results.{err_ok, ok_same}
 use Rattle.span_law.proofs.Parting.{total, signed_none}
 
 pub known_at_is : (zone : Zone) (i : ℤ) (v : Value) → is_blank v ≡ false → known_at i v ≡ Ok i

@@ -18,7 +18,8 @@ use Rattle.span_law.specs.Standing.{Leads}
 use Rattle.timebase.proofs.Searches.{most_bounded}
 use Rattle.span_law.proofs.Splits.{UpTo, years_fit, years_start, cuts, left_is}
 use Rattle.span_law.proofs.Parting.{Dated}
-use Rattle.span_law.proofs.Reaches.{start_inside, Reached, reached, reach_none, met_far, far_inside, ends, end_leads}
+use Rattle.local_times.proofs.Locals.{start_inside}
+use Rattle.span_law.proofs.Reaches.{Reached, reached, reach_none, met_far, far_inside, ends, end_leads}
 use Rattle.span_law.proofs.Meetings.{met_range}
 use Rattle.span_law.proofs.Measures.{abs_signed, up_to_between, measured_tells}
 

@@ -22,7 +22,9 @@ use Rattle.span_law.proofs.Measured.{TrueMeasure, MeasuresAreTrue}
 use Rattle.span_law.proofs.Steps.{within_low, within_high, false_true, none_some, some_same}
 use Rattle.span_law.proofs.Splits.{UpTo, lands_plain}
 use Rattle.span_law.proofs.Parting.{Fewer, Parted, Dated, signed_none, parted, fewer}
-use Rattle.span_law.proofs.Reaches.{ok_same, start_inside, Reached, reached, days_largest, days_more, reach_none, meets, met_far, Ends, ends, end_leads, ends_lead}
+use Rattle.local_times.proofs.Locals.{start_inside}
+use Rattle.local_times.proofs.Results.{ok_same}
+use Rattle.span_law.proofs.Reaches.{Reached, reached, days_largest, days_more, reach_none, meets, met_far, Ends, ends, end_leads, ends_lead}
 use Rattle.span_law.proofs.Carries.{known_at_is, arriving_known, parts_none, parts_some, carried_none, carried_some, Came, came, stayed}
 
 -- there and back again

@@ -2,10 +2,12 @@
 use Rattle.std.proofs.Common.{◌≡◌, ℕ, zero, suc, ◌≤◌, ℤ, pos, negsuc, ◌+ℤ◌, ◌-ℤ◌, ◌*ℤ◌, neg_ℤ, ◌≤ℤ◌, Ok, Err, Result, sym, refl, arith}
 use Rattle.std.proofs.lemmas.Int.{ints}
 use Rattle.timebase.specs.declared.fault.Fault.{Fault}
-use Rattle.timebase.specs.Splits.{floor_quotient, floor_rest}
+use Rattle.timebase.specs.Splits.{floor_quotient}
 use Rattle.zone.specs.Zones.{Zone, ZoneLaws, offset}
 use Rattle.local_times.specs.Meeting.{meeting, Near}
-use Rattle.local_times.proofs.Nearness.{meeting_near}
+use Rattle.local_times.proofs.Locals.{floor_day, floor_second}
+use Rattle.local_times.proofs.Nearness.{offset_bounds, meeting_near}
+use Rattle.local_times.proofs.Results.{err_ok, ok_same}
 use Rattle.calendar.specs.Calendars.{last_day}
 use Rattle.span_law.specs.declared.way.Way.{Way}
 use Rattle.span_law.specs.declared.way.Way.TheVariants.{Onward as onward, Back as back}
@@ -14,15 +16,7 @@ use Rattle.local_times.specs.Locals.{second_of, micros_of, local_second, clock_s
 use Rattle.span_law.specs.Carrying.{met_on}
 use Rattle.span_law.specs.Measuring.{far_day, reach}
 use Rattle.span_law.specs.Stepping.{signed}
-use Rattle.span_law.proofs.Reaches.{err_ok, ok_same, offset_bounds, met_far, reach_none}
-
-pub floor_day : (z : ℤ) → ((floor_quotient z 86400 *ℤ pos 86400) +ℤ pos (floor_rest z 86400) ≡ z) × (floor_rest z 86400 ≤ 86399)
-floor_day (pos n) = (omega (arith, ints), omega arith)
-floor_day (negsuc n) = (omega (arith, ints), omega arith)
-
-pub floor_second : (z : ℤ) → ((floor_quotient z 1000000 *ℤ pos 1000000) +ℤ pos (floor_rest z 1000000) ≡ z) × (floor_rest z 1000000 ≤ 999999)
-floor_second (pos n) = (omega (arith, ints), omega arith)
-floor_second (negsuc n) = (omega (arith, ints), omega arith)
+use Rattle.span_law.proofs.Reaches.{met_far, reach_none}
 
 -- the second met on a day
 pub record Met (zone : Zone) (a day r : ℤ) : Type 0 where

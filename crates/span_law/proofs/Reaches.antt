@@ -1,53 +1,22 @@
 -- The days that are reached from an instant.
-use Rattle.std.proofs.Common.{◌≡◌, ℕ, zero, suc, ◌≤◌, Bool, true, false, cond, ℤ, pos, negsuc, ◌+ℤ◌, ◌-ℤ◌, ◌*ℤ◌, nat_abs, ◌≤ℤ◌, ◌<ℤ◌, Ok, Err, Result, sym, refl, ap, ◌∙◌, arith}
+use Rattle.std.proofs.Common.{◌≡◌, ℕ, zero, suc, ◌≤◌, Bool, true, false, cond, ℤ, pos, negsuc, ◌+ℤ◌, ◌-ℤ◌, nat_abs, ◌≤ℤ◌, Ok, Err, Result, sym, refl, ap, ◌∙◌, arith}
 use Rattle.std.proofs.lemmas.Int.{ints}
 use Rattle.std.proofs.lemmas.Bool.{cond-true}
-use Rattle.zone.specs.declared.value.Value.{Value}
-use Rattle.zone.specs.declared.value.Value.TheVariants.{Offset, Blank}
 use Rattle.timebase.specs.declared.fault.Fault.{Fault}
 use Rattle.timebase.specs.declared.fault.Fault.TheVariants.{NoSuchDate}
-use Rattle.timebase.specs.Splits.{floor_quotient}
-use Rattle.zone.specs.Zones.{Zone, ZoneLaws, SoundValue, offset}
+use Rattle.zone.specs.Zones.{Zone}
 use Rattle.calendar.specs.Calendars.{last_day, within}
 use Rattle.span_law.specs.declared.way.Way.{Way}
 use Rattle.span_law.specs.declared.way.Way.TheVariants.{Onward as onward, Back as back}
-use Rattle.local_times.specs.Locals.{second_of, local_second, local_day, Known}
+use Rattle.local_times.specs.Locals.{local_day}
 use Rattle.span_law.specs.Carrying.{met_on, natural}
 use Rattle.span_law.specs.Measuring.{not_past, result_not_past, far_day, reach, days_apart, start_day, end_day}
 use Rattle.span_law.specs.Stepping.{signed}
 use Rattle.span_law.specs.Standing.{Leads}
 use Rattle.timebase.proofs.Searches.{most_passes, most_largest, most_more}
+use Rattle.local_times.proofs.Results.{err_ok, ok_same}
 use Rattle.span_law.proofs.Steps.{within_low, within_high, within_is, none_more}
 use Rattle.span_law.proofs.Splits.{UpTo}
-
-pub err_ok : {A E : Type 0} {e : E} {a : A} {X : Type 0} → ◌≡◌ {A = Result A E} (Err e) (Ok a) → X
-err_ok h = let z : ◌≡◌ {A = ℕ} 0 1 = cc in absurd (omega arith)
-
-pub ok_same : {A E : Type 0} {a b : A} → ◌≡◌ {A = Result A E} (Ok a) (Ok b) → a ≡ b
-ok_same h = cc
-
-pub offset_bounds : (v : Value) → SoundValue v → (negsuc 86398 ≤ℤ offset v) × (offset v ≤ℤ pos 86399)
-offset_bounds (Offset o) s = s
-offset_bounds (Blank cause depth) s = (omega (arith, ints), omega (arith, ints))
-
-second_bounds : (i : ℤ) → ((second_of i *ℤ pos 1000000) ≤ℤ i) × (i <ℤ ((second_of i *ℤ pos 1000000) +ℤ pos 1000000))
-second_bounds (pos n) = omega (arith, ints)
-second_bounds (negsuc n) = omega (arith, ints)
-
-day_bounds : (i : ℤ) → ((floor_quotient i 86400 *ℤ pos 86400) ≤ℤ i) × (i <ℤ ((floor_quotient i 86400 *ℤ pos 86400) +ℤ pos 86400))
-day_bounds (pos n) = omega (arith, ints)
-day_bounds (negsuc n) = omega (arith, ints)
-
--- the local day of an instant in range is a day
-pub start_inside : (zone : Zone) (a : ℤ) → ZoneLaws zone → Known zone a → (pos 1 ≤ℤ local_day zone a) × (local_day zone a ≤ℤ pos last_day)
-start_inside zone a laws k = inside (second_of a) (offset (zone (second_of a))) (floor_quotient (local_second zone a) 86400) (second_bounds a) (offset_bounds (zone (second_of a)) (laws.sound (second_of a))) (day_bounds (local_second zone a))
-  where
-    inside : (s o q : ℤ) → ((s *ℤ pos 1000000) ≤ℤ a) × (a <ℤ ((s *ℤ pos 1000000) +ℤ pos 1000000)) → (negsuc 86398 ≤ℤ o) × (o ≤ℤ pos 86399) → ((q *ℤ pos 86400) ≤ℤ (s +ℤ o)) × ((s +ℤ o) <ℤ ((q *ℤ pos 86400) +ℤ pos 86400)) →
-        (pos 1 ≤ℤ (q +ℤ pos 719163)) × ((q +ℤ pos 719163) ≤ℤ pos last_day)
-    inside s o q h1 h2 h3 =
-        let l = k.low in
-        let h = k.high in
-        omega (arith, ints)
 
 pub natural_is : (z : ℤ) → pos 0 ≤ℤ z → pos (natural z) ≡ z
 natural_is (pos n) h = refl

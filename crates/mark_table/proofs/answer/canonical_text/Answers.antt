@@ -16,8 +16,8 @@ restated : (zs : Zones) (cs : Calendars) (m : Mark) (before after : List ℕ) (n
 restated zs cs m before after n room w =
     let is = sym (front w.text before after n room w.answered w.holds) in
     record {
-      canonical = subst (λ (t : List ℕ). Canonical zs cs m t) is w.canonical;
-      again = subst (λ (t : List ℕ). read_answer zs cs t ≡ Ok m) is w.reads_back;
+      canonical = subst (λ (t : List ℕ). Canonical zs cs m t) is w.of_mark.canonical;
+      again = subst (λ (t : List ℕ). read_answer zs cs t ≡ Ok m) is w.of_mark.reads_back;
     }
 
 pub returns : goal.returns

@@ -1,8 +1,8 @@
 use Rattle.std.proofs.Common.{ℕ, List, Result, IfOk, sym, ap, ◌∙◌, subst}
 use Rattle.timebase.specs.declared.fault.Fault.{Fault}
 use Rattle.timebase.specs.declared.fault.Fault.TheVariants.{UnknownCalendar}
-use Rattle.mark_text.specs.Marks.{Lowest}
-use Rattle.mark_text.specs.Reading.{number_of, calendar_meant}
+use Rattle.mark_text.specs.Marks.{Lowest, number_of}
+use Rattle.mark_text.specs.Reading.{calendar_meant}
 use Rattle.std.specs.Prelude.{ok_or}
 use Rattle.mark_text.proofs.Lookups.{answers, lowest_is}
 use Rattle.mark_text.proofs.lookup.find_calendar.Goals as goal
