@@ -1,21 +1,12 @@
-#!/usr/bin/env python3
-"""Reads and writes mark texts by their rules, written apart from the library, to make and to check rows of crates/mark_table/data.
+"""Reads and writes mark texts by the rules of docs/RULES.md, written apart from the library's code, for tools/board_rules.py.
 
-usage: python3 tools/mark_rules.py TABLE            prints each row whose answer is another by the rules, and how many rows there are
-       python3 tools/mark_rules.py TABLE answers    prints the table with the answers of the rules in place of its own
-       python3 tools/mark_rules.py TABLE damages    prints a table of damages to a few good texts, with the answers of the rules
-
-A row is as tools/mark_rows.py says. Zone files lie beside the table, and are read by tools/moves_rules.py. The form is one regular
-expression; whether a beginning is viable is tried, by ending it in each way that a text can end. Dates are those of Python's datetime.
+The form is one regular expression; whether a beginning is viable is tried, by ending it in each way that a text can end. Dates are
+those of Python's datetime.
 """
 import datetime
-import itertools
-import os
 import re
-import sys
 
-from mark_rows import escaped
-from moves_rules import FIRST, LAST, Refused, zone_named
+from moves_rules import FIRST, LAST, Refused
 
 LIMIT = 128
 ZONES = {"UTC", "Test/H", "Site/One", "Site/Two"}
@@ -37,12 +28,9 @@ def refuse(number, place):
     raise Refused(f"no {number} {place} 0 0")
 
 
-def is_viable(beginning):
-    return any(FORM.fullmatch(beginning + ending) for ending in ENDINGS)
-
-
-def longest_viable(text):
-    return max(k for k in range(len(text) + 1) if is_viable(text[:k]))
+def longest_viable(form, endings, text):
+    """The length of the longest beginning that a text of the form has, where each one is whole with one of the endings after it."""
+    return max(k for k in range(len(text) + 1) if any(form.fullmatch(text[:k] + ending) for ending in endings))
 
 
 def judge_date(year, month, day):
@@ -91,8 +79,11 @@ def signed_clock(offset):
     return ("-" if offset < 0 else "+") + f"{minutes // 60:02}:{minutes % 60:02}" + (f":{seconds:02}" if seconds else "")
 
 
-def canonical(instant, offset, zone, calendar):
+def canonical(zone_named, mark):
+    """The canonical text of a mark, which is an instant and the names of its zone and its calendar."""
+    instant, zone, calendar = mark
     second, micros = divmod(instant, 1000000)
+    offset = zone_named(zone).offset(second)
     days, clock = divmod(second + offset, 86400)
     date = datetime.date.fromordinal(days + DAY_OF_1970)
     text = f"{date.year:04}-{date.month:02}-{date.day:02}T{clock // 3600:02}:{clock // 60 % 60:02}:{clock % 60:02}"
@@ -100,11 +91,11 @@ def canonical(instant, offset, zone, calendar):
     return text + signed_clock(offset) + f"[{zone}]" + (f"[u-ca={calendar}]" if calendar != "iso8601" else "")
 
 
-def read(folder, pair, text):
-    """The canonical text of the mark that a text says."""
+def read(zone_named, text):
+    """The mark that a text says, where zone_named gives the zone of a name."""
     match = FORM.fullmatch(text)
     if not match or len(text) > LIMIT:
-        refuse(3, min(longest_viable(text), LIMIT))
+        refuse(3, min(longest_viable(FORM, ENDINGS, text), LIMIT))
     day = judge_date(*map(int, match.group(1, 2, 3)))
     clock = judge_clock(tuple(map(int, match.group(4, 5, 6))), 11)
     said = said_offset(match)
@@ -118,102 +109,7 @@ def read(folder, pair, text):
     instant = second * 1000000 + int((match.group(7) or "").ljust(6, "0"))
     if not FIRST <= instant <= LAST:
         refuse(10, 0)
-    offset = zone_named(folder, pair, zone).offset(second)
+    offset = zone_named(zone).offset(second)
     if said is not None and said != offset:
         refuse(12, match.start(8))
-    return canonical(instant, offset, zone, calendar)
-
-
-def answer(folder, pair, text):
-    """The answer to a text. A canonical text must say itself."""
-    try:
-        written = read(folder, pair, text)
-    except Refused as refusal:
-        return str(refusal)
-    if read(folder, pair, written) != written:
-        sys.exit("a canonical text says something else: " + text)
-    return written
-
-
-# ── damages ──
-
-# a pair of zone files and a text each
-GOOD = [
-    ("00", "2024-01-31T09:00:00Z[UTC]"),
-    ("00", "1970-01-12T15:46:40.25+02:00[!Test/H][u-ca=hebrew]"),
-    ("01", "1890-02-01T12:00:00.000001+09:49:16[Site/Two][_x-1=a-b][!u-ca=iso8601]"),
-    ("06", "2011-06-30T10:20:30-04:00[Site/Two][u-ca=hebrew][u-ca=coptic]"),
-]
-# bytes that are put in, by turns
-WRONG = "0[9Z]:=-.!+atz_/,T5 \x00\x7f\xff\n\\"
-
-
-def swapped(text):
-    """The text with each two of its fields in each other's place, a name being one."""
-    parts = re.findall(rf"\d+|{NAME}|.", text)
-    fields = [k for k, part in enumerate(parts) if part[0].isalnum()]
-    for one, two in itertools.combinations(fields, 2):
-        turned = list(parts)
-        turned[one], turned[two] = parts[two], parts[one]
-        yield "".join(turned)
-
-
-def damages(text):
-    """The text cut at each place, and with each byte missing, twice, changed to the next, changed by turns, or another put before it."""
-    wrong = itertools.cycle(WRONG)
-    for at, byte in enumerate(text):
-        before, after = text[:at], text[at + 1 :]
-        yield before
-        yield before + after
-        yield before + byte + byte + after
-        yield before + chr(ord(byte) + 1) + after
-        yield before + next(wrong) + after
-        yield before + next(wrong) + byte + after
-    yield text + next(wrong)
-    yield from swapped(text)
-
-
-# ── tables ──
-
-
-def unescaped(text):
-    return re.sub(r"\\x([0-9a-f]{2})", lambda byte: chr(int(byte[1], 16)), text)
-
-
-def rows(table):
-    with open(table, encoding="utf-8") as f:
-        for line in f.read().splitlines():
-            yield line, None if line.startswith("#") else line.split("\t")
-
-
-def print_damages(table):
-    print("# Damages to a few good texts, made by tools/mark_rules.py, with the answers of its rules.")
-    print("# pair of zone files, text, answer")
-    for pair, text in GOOD:
-        for damaged in dict.fromkeys([text, *damages(text)]):
-            print(pair, escaped(damaged), answer(os.path.dirname(table), pair, damaged), sep="\t")
-
-
-def print_answers(table):
-    for line, row in rows(table):
-        if row is None:
-            print(line)
-        else:
-            pair, text, _, *remark = row
-            print(pair, text, answer(os.path.dirname(table), pair, unescaped(text)), *remark, sep="\t")
-
-
-def check(table):
-    count = differ = 0
-    for line, row in rows(table):
-        if row is None:
-            continue
-        by_rules = answer(os.path.dirname(table), row[0], unescaped(row[1]))
-        count, differ = count + 1, differ + (by_rules != row[2])
-        if by_rules != row[2]:
-            print("by the rules", by_rules, "and not:", line)
-    print(f"{count} rows, {differ} differ")
-
-
-if __name__ == "__main__":
-    {"check": check, "answers": print_answers, "damages": print_damages}[(sys.argv[2:] or ["check"])[0]](sys.argv[1])
+    return instant, zone, calendar

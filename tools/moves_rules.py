@@ -1,18 +1,14 @@
-#!/usr/bin/env python3
-"""Carries and measures by the rules of docs/RULES.md, written apart from the library, to make and to check rows of crates/moves_table/data.
+"""Carries and measures by the rules of docs/RULES.md, written apart from the library's code, for tools/board_rules.py.
 
-usage: python3 tools/moves_rules.py TABLE            prints each row whose answer is another by the rules, and how many rows there are
-       python3 tools/moves_rules.py TABLE answers    prints the table with the answers of the rules in place of its own
-
-A row is as tools/moves_rows.py says. Each answer is searched for as the rules put it: days are tried one by one, and so are years
-and months. Hebrew years are computed from their moladot, with the four postponements one by one. Zone files lie beside the table.
+Each answer is searched for as the rules put it: days are tried one by one, and so are years and months. Hebrew years are computed
+from their moladot, with the four postponements one by one. Zone files are judged by tools/zone_tables.py.
 """
 import bisect
 import functools
-import os
 import re
 import struct
-import sys
+
+from zone_tables import first_wrong
 
 FIRST, LAST = -62135510400000000, 253402214399999999
 DAY_LAST = 3652059
@@ -123,17 +119,13 @@ class Zone:
         return local - self.offset(passed - 1)
 
 
-def zone_of_file(path):
-    """The zone of a file. A file is judged by two things alone, those that occur here: an empty one is bad, and one that counts leap seconds."""
-    with open(path, "rb") as f:
-        data = f.read()
-    if not data:
+def zone_of_bytes(data):
+    """The zone of a file's bytes."""
+    if first_wrong(data) is not None:
         return Zone(None, [])
     isut, isstd, leap, times, types, chars = struct.unpack(">6I", data[20:44])
     at = 44 + times * 5 + types * 6 + chars + leap * 8 + isstd + isut
-    leap, times, types = struct.unpack(">3I", data[at + 28 : at + 40])
-    if leap:
-        return Zone(None, [])
+    times, types = struct.unpack(">2I", data[at + 32 : at + 40])
     at += 44
     seconds = struct.unpack(f">{times}q", data[at : at + 8 * times])
     indexes = data[at + 8 * times : at + 9 * times]
@@ -141,15 +133,7 @@ def zone_of_file(path):
     return Zone(offsets[0], [(s, offsets[i]) for s, i in zip(seconds, indexes)])
 
 
-@functools.cache
-def zone_named(folder, pair, name):
-    match name:
-        case "UTC":
-            return Zone(0, [])
-        case "Test/H":
-            return Zone(3600, [(1000000, 7200), (2000000, 3600)])
-        case _:
-            return zone_of_file(os.path.join(folder, pair + {"Site/One": "-one.tzif", "Site/Two": "-two.tzif"}[name]))
+STEP_ZONES = {"UTC": Zone(0, []), "Test/H": Zone(3600, [(1000000, 7200), (2000000, 3600)])}
 
 
 CALENDARS = {"iso8601": Gregorian(), "hebrew": Hebrew()}
@@ -280,35 +264,3 @@ class Setting:
         days, reach = self.farthest(a, b, way)
         start = self.local(a)[0]
         return *self.dates(start, start + way * days, way, unit), b - reach
-
-    def answer(self, instant, asked, argument):
-        try:
-            if asked == "carry":
-                return str(self.carry(instant, read_span(argument)))
-            return write_span(*self.measure(instant, asked, int(argument)))
-        except Refused as refusal:
-            return str(refusal)
-
-
-def main(table, show=None):
-    rows = differ = 0
-    with open(table, encoding="utf-8") as f:
-        for line in f.read().splitlines():
-            if line.startswith("#"):
-                if show:
-                    print(line)
-                continue
-            pair, zone, calendar, instant, asked, argument, answer, *remark = line.split("\t")
-            setting = Setting(zone_named(os.path.dirname(table), pair, zone), CALENDARS[calendar])
-            by_rules = setting.answer(int(instant), asked, argument)
-            rows, differ = rows + 1, differ + (by_rules != answer)
-            if show:
-                print(pair, zone, calendar, instant, asked, argument, by_rules, *remark, sep="\t")
-            elif by_rules != answer:
-                print("by the rules", by_rules, "and not:", line)
-    if not show:
-        print(f"{rows} rows, {differ} differ")
-
-
-if __name__ == "__main__":
-    main(*sys.argv[1:])

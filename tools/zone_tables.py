@@ -340,4 +340,5 @@ def main():
         out.writelines(line + '\n' for line in expected(files, tables, damage_rows))
 
 
-main()
+if __name__ == '__main__':
+    main()

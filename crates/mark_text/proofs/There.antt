@@ -14,13 +14,11 @@ use Rattle.local_times.proofs.Results.{err_ok, ok_same}
 use Rattle.mark_form.specs.declared.draft.Draft.{Draft}
 use Rattle.mark_form.specs.Drafts.{read_draft}
 use Rattle.mark_trip.specs.RoundTrip.{part_of}
-use Rattle.mark_writing.specs.declared.stamp.Stamp.{Stamp}
 use Rattle.mark_text.specs.declared.fields.Fields.{Fields}
 use Rattle.mark_text.specs.declared.mark.Mark.{Mark}
 use Rattle.mark_text.specs.Fields.{fields_said, instant_said}
 use Rattle.mark_text.specs.Marks.{IsThere, Lowest, number_of, is_at, is_lowest, is_known, mark_there}
 use Rattle.mark_text.specs.Reading.{or_unreadable, tags_said, zone_said, calendar_meant, calendar_place, calendar_said, agreed, read_answer}
-use Rattle.mark_text.specs.Shown.{ShownBy}
 use Rattle.mark_text.proofs.Lookups.{lowest_found, number_own}
 use Rattle.mark_text.proofs.Tells.{then_ok}
 use Rattle.mark_text.proofs.Trips.{in_range}
@@ -68,10 +66,10 @@ is_there zs cs m t =
 pub not_there : (zs : Zones) (cs : Calendars) (m : Mark) → (IsThere zs cs m → ⊥) → mark_there zs cs m ≡ false
 not_there zs cs m h = false_from_ne_true (mark_there zs cs m) (λ e. h (there_is zs cs m e))
 
--- what its text shows is found exactly if it is there
-pub stamp_there : (zs : Zones) (cs : Calendars) (m : Mark) (o : Option Stamp) → MatchOption o (IsThere zs cs m → ⊥) (λ s. IsThere zs cs m × ShownBy zs cs m s) → is_some o ≡ mark_there zs cs m
-stamp_there zs cs m (Some s) h = sym (is_there zs cs m h.0)
-stamp_there zs cs m None h = sym (not_there zs cs m h)
+-- what is found of a mark exactly if it is there
+pub found_there : {A : Type 0} (zs : Zones) (cs : Calendars) (m : Mark) (P : A → Type 0) (o : Option A) → MatchOption o (IsThere zs cs m → ⊥) (λ a. IsThere zs cs m × P a) → is_some o ≡ mark_there zs cs m
+found_there zs cs m P (Some a) h = sym (is_there zs cs m h.0)
+found_there zs cs m P None h = sym (not_there zs cs m h)
 
 -- ── what a text says ──
 

@@ -69,6 +69,21 @@ fn local_at<Z: ZoneSource>(zone: &ZoneAt<'_, Z>, instant: i64) -> Option<LocalTi
     }
 }
 
+// The offset of a mark's zone at its instant, in seconds; none where the mark isn't there.
+pub(crate) fn offset_of<Z: ZoneSource, C: CalendarSource>(
+    zones: &Z,
+    calendars: &C,
+    mark: &Mark,
+) -> Option<i32>
+    ensures { MatchOption result (IsThere (Z.ZoneSource.zones zones.now) (C.CalendarSource.calendars calendars.now) mark.now → ⊥) (λ o. IsThere (Z.ZoneSource.zones zones.now) (C.CalendarSource.calendars calendars.now) mark.now × (o ≡ offset ((Z.ZoneSource.zones zones.now).value mark.now.zone (second_of mark.now.instant)))) }
+{
+    let number = usize::from(mark.zone);
+    zone_name(zones, number)?;
+    calendar_name(calendars, usize::from(mark.calendar))?;
+    let zone = ZoneAt::new(zones, number)?;
+    shift_at(&zone, mark.instant)
+}
+
 // What the text of a mark shows; none where the mark isn't there.
 pub(crate) fn stamp_of<'s, Z: ZoneSource, C: CalendarSource>(
     zones: &'s Z,

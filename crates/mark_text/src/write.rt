@@ -5,7 +5,7 @@ ghost use Rattle.mark_text.specs.Marks.{IsThere, mark_there};
 ghost use Rattle.mark_text.specs.Shown.{Written, PutsMark};
 
 use crate::mark::Mark;
-use crate::stamping::stamp_of;
+use crate::stamping::{offset_of, stamp_of};
 use calendar::source::CalendarSource;
 use mark_writing::write::{put_stamp, write_stamp};
 use timebase::fault::Fault;
@@ -17,7 +17,7 @@ pub fn is_there<Z: ZoneSource, C: CalendarSource>(zones: &Z, calendars: &C, mark
     ensures value { result ≡ mark_there (Z.ZoneSource.zones zones.now) (C.CalendarSource.calendars calendars.now) mark.now }
     ensures there { Decides result (IsThere (Z.ZoneSource.zones zones.now) (C.CalendarSource.calendars calendars.now) mark.now) }
 {
-    stamp_of(zones, calendars, mark).is_some()
+    offset_of(zones, calendars, mark).is_some()
 }
 
 // Puts the canonical text of a mark, as much of it as fits: a piece of a longer text. The answer is whether the mark is

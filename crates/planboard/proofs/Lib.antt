@@ -1,3 +1,5 @@
-pub mod Emptied
-pub mod Written
-pub mod Entered
+pub mod States
+pub mod Listed
+pub mod Wrotes
+pub mod Runs
+pub mod Sames

@@ -1,4 +1,3 @@
-pub mod Boards
-pub mod Laws
-pub mod Loans
-pub mod Slots
+pub mod Coded
+pub mod Lists
+pub mod View

@@ -3,9 +3,11 @@
 
 #[cfg(test)]
 mod tests {
+    use board_sources::calendars::calendars;
+    use board_sources::zones::zones;
     use planboard::board::Board;
-    use planboard::shelf::Shelf;
     use script::run::run_script;
+    use shelf::Shelf;
     use span_text::write::write_span;
     use std::test::Fail;
     use timebase::fault::Fault;
@@ -62,17 +64,38 @@ mod tests {
         assert!(rt; memory == [None, Some(9), Some(7)]);
     }
 
+    const NOON: &[u8] = b"2024-02-29T12:00:00Z[UTC]";
+
+    #[test]
+    fn list_asks_for_a_hundred_bytes_a_mark(rt: HostRuntime) -> Result<(), Fail> {
+        let (zones, calendars) = (zones(b"", b""), calendars());
+        let mut marks = [None; 3];
+        let mut spans = [None; 1];
+        let mut board = Board::new(&zones, &calendars, &mut marks, &mut spans);
+        assert!(rt; board.place(1, NOON).is_ok());
+        let mut out = [b'#'; 100];
+        assert!(rt; matches!(board.list(&mut out[..99]), Err(Fault::BufferSmall)));
+        assert!(rt; out == [b'#'; 100]);
+        let Ok(length) = board.list(&mut out) else {
+            return Err(Fail::new("no room"));
+        };
+        assert!(rt; out.get(..length) == Some(b"1 2024-02-29T12:00:00+00:00[UTC]\n".as_slice()));
+        Ok(())
+    }
+
     #[test]
     fn script_without_room_is_refused(rt: HostRuntime) {
+        let (zones, calendars) = (zones(b"", b""), calendars());
+        let mut marks = [None; 2];
         let mut spans = [None; 2];
-        let mut board = Board::new(&mut spans);
-        let mut out = [b'#'; 99];
+        let mut board = Board::new(&zones, &calendars, &mut marks, &mut spans);
+        let mut out = [b'#'; 299];
         assert!(rt;
             matches!(
-                run_script(&mut board, b"span 0 PT1S", &mut out),
+                run_script(&mut board, b"span 0 PT1S\nlist", &mut out),
                 Err(Fault::BufferSmall)
             )
         );
-        assert!(rt; out == [b'#'; 99]);
+        assert!(rt; out == [b'#'; 299]);
     }
 }

@@ -47,12 +47,7 @@ pub no_lines : lines_of [] ≡ []
 unfolding lines_of
 no_lines = refl
 
--- ── how many lines a text has at most, and how long they are ──
-
--- no line is longer than n bytes
-abbrev pub Short : ℕ → List (List ℕ) → Type 0
-Short n [] = Unit {0}
-Short n (line ∷ lines) = (length line ≤ n) × Short n lines
+-- ── how many lines a text has at most ──
 
 few_on : (line bs : List ℕ) → length (lines_on line bs) ≤ length line + length bs
 few_on [] [] = omega arith
@@ -67,16 +62,3 @@ few_on line (b ∷ bs) = by (eqb b 10) (few_on [] bs) (few_on (line ++ (b ∷ []
 pub few_lines : (text : List ℕ) → length (lines_of text) ≤ length text
 unfolding lines_of
 few_lines text = omega (arith, few_on [] text)
-
-short_on : (n : ℕ) (line bs : List ℕ) → length line + length bs ≤ n → Short n (lines_on line bs)
-short_on n [] [] h = tt
-short_on n (c ∷ cs) [] h = (omega (arith, h), tt)
-short_on n line (b ∷ bs) h = by (eqb b 10) (short_on n [] bs (omega (arith, h))) (short_on n (line ++ (b ∷ [])) bs (omega (arith, h, length-append line (b ∷ []))))
-  where
-    by : (x : Bool) → Short n (lines_on [] bs) → Short n (lines_on (line ++ (b ∷ [])) bs) → Short n (cond x (line ∷ lines_on [] bs) (lines_on (line ++ (b ∷ [])) bs))
-    by true more on = (omega (arith, h), more)
-    by false more on = on
-
-pub short_lines : (n : ℕ) (text : List ℕ) → length text ≤ n → Short n (lines_of text)
-unfolding lines_of
-short_lines n text h = short_on n [] text (omega (arith, h))

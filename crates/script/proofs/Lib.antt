@@ -1,8 +1,3 @@
 pub mod Cuts
-pub mod LineLive
-pub mod LineSound
-pub mod LineComplete
-pub mod LineAnswers
+pub mod Rooms
 pub mod Runs
-pub mod LastEntries
-pub mod RunLaws

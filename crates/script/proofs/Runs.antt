@@ -1,116 +1,101 @@
 -- A script line by line.
-use Rattle.std.proofs.Common.{◌≡◌, ℕ, ◌+◌, ◌*◌, ◌^◌, ◌<◌, ◌≤◌, Bool, true, false, cond, ltb, List, [], ◌∷◌, ◌++◌, length, drop, Ok, Err, Option, Result, sym, refl, ap, ◌∙◌, append_assoc, append-nil, arith, length-append, length-drop}
-use Rattle.std.proofs.lemmas.Fmt.{length-decimal-le}
-use Rattle.timebase.specs.declared.fault.Fault.{Fault}
-use Rattle.timebase.specs.declared.fault.Fault.TheVariants.{SlotOff, Unreadable, PastLimit}
-use Rattle.timebase.specs.declared.span.Part.{Part}
-use Rattle.timebase.specs.declared.span.Part.TheVariants.{Years, Months, Weeks, Days, Time}
-use Rattle.timebase.specs.declared.span.Span.{Span}
-use Rattle.timebase.specs.declared.fault.Told.{Told}
-use Rattle.timebase.specs.Faults.{told}
+use Rattle.std.proofs.Common.{◌≡◌, ℕ, ◌+◌, ◌<◌, ◌≤◌, Bool, false, cond, ltb, List, [], ◌∷◌, ◌++◌, length, Ok, Err, Result, sym, refl, ap, ◌∙◌, subst, append_assoc, append-nil, arith, length-append}
+use Rattle.std.proofs.lemmas.Bool.{le-ltb, lt-ltb}
 use Rattle.reading.specs.declared.Misread.{Misread}
-use Rattle.reading.specs.Places.{AnswersWithin}
-use Rattle.span_text.specs.Spans.{read_span, Answered}
-use Rattle.span_text.specs.Spans.Answered.{reads, unreadable, past}
-use Rattle.span_text.proofs.Answering.{answered}
-use Rattle.span_text.proofs.Lengths.{span_short}
-use Rattle.planboard.specs.Boards.{enter_answer}
-use Rattle.planboard.specs.Slots.{slot_count}
+use Rattle.writing.specs.declared.Writer.{Writer}
 use Rattle.writing.specs.Placing.{Placed}
 use Rattle.writing.proofs.Placings.{placed_more, placed_none, placed_start}
-use Rattle.script.specs.declared.line.SpanLine.{SpanLine}
-use Rattle.script.specs.Lines.{IsSpanLine}
-use Rattle.script.specs.Scanning.{read_line}
-use Rattle.script.specs.Scripts.{line_answer, line_after, word_text, refusal_text, answer_text, spans_after, output}
-use Rattle.script.proofs.Cuts.{Short}
-use Rattle.script.proofs.LineAnswers.{line_answers}
+use Rattle.line_form.specs.declared.line.Line.{Line}
+use Rattle.line_form.specs.Scanning.{read_line}
+use Rattle.board_law.specs.Boards.{Sources, State, mark_slots, made, run}
+use Rattle.board_law.specs.Runs.{Lawful}
+use Rattle.board_law.proofs.Keeps.{run_slots, run_first, run_none}
+use Rattle.planboard.specs.Lists.{PutsOne}
+use Rattle.script.specs.Scripts.{form_call, calls_of, Answer, line_after, Output, line_room, room_of, script_lines, script_calls, Ran}
+use Rattle.script.specs.Scripts.Output.{none, one_more}
 
--- ── no answer needs more than its room ──
+module _ (src : Sources) where
+  -- a line's call, and then those of the lines after it
+  line_first : (st : State) (line : List ℕ) (rest : List (List ℕ)) → run src (line_after src st line) (calls_of rest) ≡ run src st (calls_of (line ∷ rest))
+  unfolding run calls_of
+  line_first st line rest = by (read_line line)
+    where
+      by : (r : Result Line Misread) → run src (elim r [ Ok form ↦ made src st (form_call line form) | Err m ↦ st ]) (calls_of rest)
+          ≡ run src st (elim r [ Ok form ↦ form_call line form ∷ calls_of rest | Err m ↦ calls_of rest ])
+      by (Ok form) = refl
+      by (Err m) = refl
 
-word_short : (k n : ℕ) → 0 < k → n < 10 ^ k → n < 2 ^ 64 → length (word_text n) ≤ k + 1
-word_short k n some few fits = omega (arith, length-decimal-le k n some few fits)
+  -- what a line does
+  pub record LineDone (st : State) (line : List ℕ) (before after : Writer) (next : State) : Type 0 where
+    pub put : PutsOne (Answer src st line) (line_room (mark_slots st) line) before after
+    pub state : next ≡ line_after src st line
 
-refusal_short : (t : Told) → t.number < 100 → t.place < 2 ^ 64 → t.cause < 1000 → t.depth < 1000 → length (refusal_text t) ≤ 99
-refusal_short t a b c d =
-    let w = word_short 2 t.number (omega arith) (omega arith) (omega arith) in
-    let x = word_short 20 t.place (omega arith) (omega arith) b in
-    let y = word_short 3 t.cause (omega arith) (omega arith) (omega arith) in
-    let z = word_short 3 t.depth (omega arith) (omega arith) (omega arith) in
-    simp length-append (omega arith)
+  line_slots : Lawful src → (st : State) (line : List ℕ) → mark_slots (line_after src st line) ≡ mark_slots st
+  line_slots law st line = by (read_line line)
+    where
+      by : (r : Result Line Misread) → mark_slots (elim r [ Ok form ↦ made src st (form_call line form) | Err m ↦ st ]) ≡ mark_slots st
+      by (Ok form) =
+          let call = form_call line form in
+          let one : made src st call ≡ run src st (call ∷ []) = sym (run_none src (made src st call)) ∙ run_first src st call [] in
+          ap mark_slots one ∙ (run_slots src law st (call ∷ [])).marks
+      by (Err m) = refl
 
-text_short : (t : List ℕ) (r : Result Span Fault) → Answered t r → length t < 2 ^ 64 → length (answer_text r) ≤ 99
-text_short t r (reads {f} text within e) h = omega (arith, span_short _ e.limits)
-text_short t r (unreadable {place} a) h = refusal_short (told (Unreadable place)) (omega arith) (omega (arith, a.longest.within)) (omega arith) (omega arith)
-text_short t r (past {f} {part} text p) h = part_short part
-  where
-    part_short : (part : Part) → length (answer_text (Err (PastLimit part))) ≤ 99
-    part_short Years = refusal_short (told (PastLimit Years)) (omega arith) (omega arith) (omega arith) (omega arith)
-    part_short Months = refusal_short (told (PastLimit Months)) (omega arith) (omega arith) (omega arith) (omega arith)
-    part_short Weeks = refusal_short (told (PastLimit Weeks)) (omega arith) (omega arith) (omega arith) (omega arith)
-    part_short Days = refusal_short (told (PastLimit Days)) (omega arith) (omega arith) (omega arith) (omega arith)
-    part_short Time = refusal_short (told (PastLimit Time)) (omega arith) (omega arith) (omega arith) (omega arith)
+  -- so many answers are put, and the lines that are left give the rest
+  pub record Going (start : State) (room : List ℕ) (script : List (List ℕ)) (st : State) (out : List ℕ) (at : ℕ) (left : List (List ℕ)) : Type 0 where
+    pub done : List ℕ
+    pub placed : Placed room 0 done out at
+    pub text : (rest : List ℕ) → Output src st left rest → Output src start script (done ++ rest)
+    pub state : run src st (calls_of left) ≡ run src start (calls_of script)
+    pub slots : mark_slots st ≡ mark_slots start
+    pub few : length done + room_of (mark_slots start) left ≤ room_of (mark_slots start) script
 
-enter_short : (spans : List (Option Span)) (slot : ℕ) (text : List ℕ) → length text < 2 ^ 64 → length (answer_text (enter_answer spans slot text)) ≤ 99
-enter_short spans slot text h = by (ltb slot (slot_count 256 spans))
-  where
-    by : (b : Bool) → length (answer_text (cond b (read_span text) (Err (SlotOff 0)))) ≤ 99
-    by true = text_short text (read_span text) (answered text) h
-    by false = refusal_short (told (SlotOff 0)) (omega arith) (omega arith) (omega arith) (omega arith)
+  pub going_first : (start : State) (room : List ℕ) (script : List (List ℕ)) → Going start room script start room 0 script
+  going_first start room script = record { done = []; placed = placed_none room 0; text = λ rest o. o; state = refl; slots = refl; few = omega arith }
 
-form_short : (spans : List (Option Span)) (line : List ℕ) (r : Result SpanLine Misread) → AnswersWithin IsSpanLine 160 line r → length line < 2 ^ 64
-    → length (answer_text (elim r [ Ok v ↦ enter_answer spans v.slot (drop v.text line) | Err m ↦ Err (Unreadable m.at) ])) ≤ 99
-form_short spans line (Ok v) a h = enter_short spans v.slot (drop v.text line) (omega (arith, length-drop v.text line))
-form_short spans line (Err m) a h = refusal_short (told (Unreadable m.at)) (omega arith) (omega (arith, a.at)) (omega arith) (omega arith)
+  pub going_on : Lawful src → {start : State} {room : List ℕ} {script : List (List ℕ)} {st : State} {now : Writer} {left : List (List ℕ)} (line : List ℕ) (rest : List (List ℕ)) {after : Writer} {next : State}
+      → Going start room script st now.out.now now.at left → left ≡ line ∷ rest → LineDone st line now after next → Going start room script next after.out.now after.at rest
+  unfolding room_of
+  going_on law {start} {room} {script} {st} {now} {left} line rest {after} {next} g is d =
+      let t = d.put.text in
+      let n = ap (room_of (mark_slots start)) is in
+      let short = subst (λ (k : ℕ). length t ≤ line_room k line) g.slots d.put.short in
+      record {
+        done = g.done ++ t;
+        placed = placed_more g.placed d.put.put.placed;
+        text = λ r o.
+            subst (λ (v : List ℕ). Output src start script v) (sym (append_assoc g.done t r))
+            (g.text (t ++ r) (subst (λ (ls : List (List ℕ)). Output src st ls (t ++ r)) (sym is)
+            (one_more st line rest t r d.put.is (subst (λ (s : State). Output src s rest r) d.state o))));
+        state = ap (λ (s : State). run src s (calls_of rest)) d.state ∙ line_first st line rest ∙ ap (λ (ls : List (List ℕ)). run src st (calls_of ls)) (sym is) ∙ g.state;
+        slots = ap mark_slots d.state ∙ line_slots law st line ∙ g.slots;
+        few = omega (arith, g.few, n, short, length-append g.done t);
+      }
 
-line_short : (spans : List (Option Span)) (line : List ℕ) → length line < 2 ^ 64 → length (answer_text (line_answer spans line)) ≤ 99
-line_short spans line h = form_short spans line (read_line line) (line_answers line) h
+  pub record Ended (start : State) (input before : List ℕ) (st : State) (out : List ℕ) (at : ℕ) : Type 0 where
+    pub answers : (buffer : List ℕ) → buffer ≡ out → Ran src start (mark_slots start) input before (Ok at) buffer
+    pub state : st ≡ run src start (script_calls (mark_slots start) input before)
 
--- ── the loop ──
+  pub going_end : {start : State} {room : List ℕ} {script : List (List ℕ)} {st : State} {out : List ℕ} {at : ℕ} {left : List (List ℕ)} (input : List ℕ)
+      → Going start room script st out at left → left ≡ [] → script ≡ script_lines input → room_of (mark_slots start) (script_lines input) ≤ length room → Ended start input room st out at
+  unfolding run calls_of room_of
+  going_end {start} {room} {script} {st} {out} {at} {left} input g end is enough =
+      let slots = mark_slots start in
+      let same = ap (room_of slots) is in
+      let all = placed_start g.placed (omega (arith, g.few, same, enough)) in
+      let told : Output src start (script_lines input) g.done = subst (λ (ls : List (List ℕ)). Output src start ls g.done) is
+      (subst (λ (v : List ℕ). Output src start script v) (append-nil g.done) (g.text [] (subst (λ (ls : List (List ℕ)). Output src st ls []) (sym end) (none st)))) in
+      let b : ltb (length room) (room_of slots (script_lines input)) ≡ false = le-ltb (length room) (room_of slots (script_lines input)) enough in
+      record {
+        answers = λ buffer e. record { refused = λ h. absurd (omega (arith, h, enough)); accepted = λ h. (g.done, told, ap Ok all.0, e ∙ all.1) };
+        state =
+            sym (ap (λ (ls : List (List ℕ)). run src st (calls_of ls)) end) ∙ g.state ∙ ap (λ (ls : List (List ℕ)). run src start (calls_of ls)) is
+            ∙ sym (ap (λ (t : Bool). run src start (cond t [] (calls_of (script_lines input)))) b);
+      }
 
--- so much of the output stands in the buffer, and the lines that are left give the rest
-pub record Going (before : List (Option Span)) (room : List ℕ) (script : List (List ℕ)) (spans : List (Option Span)) (out : List ℕ) (at : ℕ) (left : List (List ℕ)) : Type 0 where
-  pub done : List ℕ
-  pub placed : Placed room 0 done out at
-  pub text : done ++ output spans left ≡ output before script
-  pub slots : spans_after spans left ≡ spans_after before script
-  pub short : Short 16384 left
-  pub few : length done + 100 * length left ≤ 100 * length script
+  -- a script without room
+  pub no_calls : (slots : ℕ) (input before : List ℕ) → length before < room_of slots (script_lines input) → script_calls slots input before ≡ []
+  no_calls slots input before h = ap (λ (t : Bool). cond t [] (calls_of (script_lines input))) (lt-ltb (length before) (room_of slots (script_lines input)) h)
 
-pub going_first : (before : List (Option Span)) (room : List ℕ) (script : List (List ℕ)) → Short 16384 script → Going before room script before room 0 script
-going_first before room script h = record { done = []; placed = placed_none room 0; text = refl; slots = refl; short = h; few = omega arith }
-
-pub going_on : {before : List (Option Span)} {room : List ℕ} {script : List (List ℕ)} {spans : List (Option Span)} {out : List ℕ} {at : ℕ}
-    → (line : List ℕ) (rest : List (List ℕ)) → Going before room script spans out at (line ∷ rest)
-    → (spans' : List (Option Span)) → spans' ≡ line_after spans line → (out' : List ℕ) (at' : ℕ) → Placed out at (answer_text (line_answer spans line) ++ (10 ∷ [])) out' at'
-    → Going before room script spans' out' at' rest
-unfolding output spans_after
-going_on {before} {room} {script} {spans} {out} {at} line rest g spans' same out' at' p =
-    let a = answer_text (line_answer spans line) in
-    let s = line_short spans line (omega (arith, g.short.0)) in
-    record {
-      done = g.done ++ (a ++ (10 ∷ []));
-      placed = placed_more g.placed p;
-      text =
-          ap (λ (z : List (Option Span)). (g.done ++ (a ++ (10 ∷ []))) ++ output z rest) same
-          ∙ (append_assoc g.done (a ++ (10 ∷ [])) _ ∙ (ap (λ (z : List ℕ). g.done ++ z) (append_assoc a (10 ∷ []) _) ∙ g.text));
-      slots = ap (λ (z : List (Option Span)). spans_after z rest) same ∙ g.slots;
-      short = g.short.1;
-      few = simp length-append (omega (arith, g.few, s));
-    }
-
-pub record Ended (before : List (Option Span)) (room : List ℕ) (script : List (List ℕ)) (spans : List (Option Span)) (out : List ℕ) (at : ℕ) : Type 0 where
-  pub at_is : at ≡ length (output before script)
-  pub out_is : out ≡ output before script ++ drop (length (output before script)) room
-  pub spans_is : spans ≡ spans_after before script
-
-pub going_end : {before : List (Option Span)} {room : List ℕ} {script : List (List ℕ)} {spans : List (Option Span)} {out : List ℕ} {at : ℕ} {left : List (List ℕ)}
-    → Going before room script spans out at left → left ≡ [] → 100 * length script ≤ length room → Ended before room script spans out at
-unfolding output spans_after
-going_end {before} {room} {script} {spans} {out} {at} {left} g none enough =
-    let t : g.done ≡ output before script = sym (append-nil g.done) ∙ (ap (λ (z : List (List ℕ)). g.done ++ output spans z) (sym none) ∙ g.text) in
-    let all = placed_start g.placed (omega (arith, g.few)) in
-    record {
-      at_is = all.0 ∙ ap length t;
-      out_is = all.1 ∙ ap (λ (z : List ℕ). z ++ drop (length z) room) t;
-      spans_is = ap (spans_after spans) (sym none) ∙ g.slots;
-    }
+-- over sources that stay
+pub done_over : {src src' : Sources} {st : State} {line : List ℕ} {before after : Writer} {next : State} → src' ≡ src → LineDone src' st line before after next → LineDone src st line before after next
+done_over {src} {src'} {st} {line} {before} {after} {next} same d = subst (λ (s : Sources). LineDone s st line before after next) same d

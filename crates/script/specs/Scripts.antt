@@ -1,15 +1,19 @@
--- A whole script: its lines, the answer to each, and what the board holds after it.
-use Rattle.std.specs.Prelude.{◌≡◌, ℕ, ◌*◌, cond, List, [], ◌∷◌, ◌++◌, length, take, drop, Some, Ok, Err, codes, decimal, Option, Result, ◌==◌, nat_lt}
+-- A whole script: its lines, the call that each says, the answer to each, and what the board holds after it.
+use Rattle.std.specs.Prelude.{◌≡◌, ℕ, ◌+◌, ◌*◌, ◌<◌, ◌≤◌, cond, List, [], ◌∷◌, ◌++◌, length, take, drop, Ok, Err, codes, decimal, Result, ◌==◌, nat_lt}
+use Rattle.std.specs.Str.{bytes_eq}
 use Rattle.timebase.specs.declared.fault.Fault.{Fault}
 use Rattle.timebase.specs.declared.fault.Fault.TheVariants.{Unreadable, BufferSmall}
 use Rattle.timebase.specs.declared.fault.Told.{Told}
-use Rattle.timebase.specs.declared.span.Span.{Span}
+use Rattle.timebase.specs.declared.span.Span.{Span as AnySpan}
 use Rattle.timebase.specs.Faults.{told}
 use Rattle.span_text.specs.Canonical.{span_text}
-use Rattle.planboard.specs.Boards.{enter_answer, entered_by}
-use Rattle.planboard.specs.Slots.{slot_at}
-use Rattle.script.specs.declared.line.SpanLine.{SpanLine}
-use Rattle.script.specs.Scanning.{read_line}
+use Rattle.mark_text.specs.declared.mark.Mark.{Mark as AnyMark}
+use Rattle.mark_text.specs.Shown.{Canonical}
+use Rattle.line_form.specs.declared.line.Line.{Line}
+use Rattle.line_form.specs.declared.line.Line.TheVariants.{Mark, Lift, Span, Between, Carry, Zone, Calendar, List as Listed}
+use Rattle.line_form.specs.Scanning.{read_line}
+use Rattle.board_law.specs.Boards.{Sources, State, Call, place, lift, enter, measure, carry, rezone, recalendar, list_marks, placed, lifted, entered, measured, carried, rezoned, recalendared, made}
+use Rattle.board_law.specs.Texts.{Listing}
 
 -- ── lines ──
 
@@ -30,78 +34,103 @@ lines_of text = lines_on [] text
 abbrev pub script_lines : List ℕ → List (List ℕ)
 script_lines input = lines_of (take 16384 input)
 
--- ── one line ──
+-- ── the calls that lines say ──
 
-abbrev pub line_answer : List (Option Span) → List ℕ → Result Span Fault
-line_answer spans line = elim (read_line line) [ Ok v ↦ enter_answer spans v.slot (drop v.text line) | Err m ↦ Err (Unreadable m.at) ]
+-- the call of a line in form; a list may have as much room as the marks of any board need
+abbrev pub form_call : List ℕ → Line → Call
+form_call line (Mark slot text) = place slot (drop text line)
+form_call line (Lift slot) = lift slot
+form_call line (Span slot text) = enter slot (drop text line)
+form_call line (Between first second unit span) = measure first second unit span
+form_call line (Carry first span target) = carry first span target
+form_call line (Zone slot name) = rezone slot (drop name line)
+form_call line (Calendar slot name) = recalendar slot (drop name line)
+form_call line Listed = list_marks 25600
 
-abbrev pub line_after : List (Option Span) → List ℕ → List (Option Span)
-line_after spans line = elim (read_line line) [ Ok v ↦ entered_by spans v.slot (enter_answer spans v.slot (drop v.text line)) | Err m ↦ spans ]
+-- a line that is out of form says none
+unfoldable pub calls_of : List (List ℕ) → List Call
+calls_of [] = []
+calls_of (line ∷ lines) = elim (read_line line) [ Ok form ↦ form_call line form ∷ calls_of lines | Err m ↦ calls_of lines ]
+
+-- ── the answer to a line ──
+
+-- a text on a line of its own
+abbrev pub on_line : List ℕ → List ℕ
+on_line t = t ++ (10 ∷ [])
 
 -- a number after a space
 abbrev pub word_text : ℕ → List ℕ
 word_text n = 32 ∷ decimal n
 
+-- `no` with number, place, cause and depth
 abbrev pub refusal_text : Told → List ℕ
 refusal_text t = codes "no" ++ (word_text t.number ++ (word_text t.place ++ (word_text t.cause ++ word_text t.depth)))
 
--- the span that was entered, or `no` with number, place, cause and depth
-abbrev pub answer_text : Result Span Fault → List ℕ
-answer_text (Ok s) = span_text s
-answer_text (Err fault) = refusal_text (told fault)
+abbrev pub refusal_line : Fault → List ℕ
+refusal_line fault = on_line (refusal_text (told fault))
 
--- ── all lines, one after another ──
+-- the canonical text of the span that a call answers
+abbrev pub SpanTold : Result AnySpan Fault → List ℕ → Type 0
+SpanTold (Ok s) t = t ≡ on_line (span_text s)
+SpanTold (Err fault) t = t ≡ refusal_line fault
 
-unfoldable pub spans_after : List (Option Span) → List (List ℕ) → List (Option Span)
-spans_after spans [] = spans
-spans_after spans (line ∷ lines) = spans_after (line_after spans line) lines
+abbrev pub LiftTold : Result AnyMark Fault → List ℕ → Type 0
+LiftTold (Ok m) t = t ≡ on_line (codes "lifted")
+LiftTold (Err fault) t = t ≡ refusal_line fault
 
-unfoldable pub output : List (Option Span) → List (List ℕ) → List ℕ
-output spans [] = []
-output spans (line ∷ lines) = answer_text (line_answer spans line) ++ (10 ∷ output (line_after spans line) lines)
+module _ (src : Sources) where
+  -- the canonical text of the mark that a call answers
+  abbrev pub MarkTold : Result AnyMark Fault → List ℕ → Type 0
+  MarkTold (Ok m) t = (u : List ℕ) × Canonical src.zones src.calendars m u × (t ≡ on_line u)
+  MarkTold (Err fault) t = t ≡ refusal_line fault
 
--- the room that the answers are given: 100 bytes for each line
-abbrev pub room_of : List (List ℕ) → ℕ
-room_of lines = 100 * length lines
+  -- the answer to a line in form: of the mark or the span that is written, `lifted`, or the list of the marks
+  abbrev pub FormAnswer : State → List ℕ → Line → List ℕ → Type 0
+  FormAnswer st line (Mark slot text) t = MarkTold (placed src st slot (drop text line)) t
+  FormAnswer st line (Lift slot) t = LiftTold (lifted src st slot) t
+  FormAnswer st line (Span slot text) t = SpanTold (entered src st slot (drop text line)) t
+  FormAnswer st line (Between first second unit span) t = SpanTold (measured src st first second unit span) t
+  FormAnswer st line (Carry first span target) t = MarkTold (carried src st first span target) t
+  FormAnswer st line (Zone slot name) t = MarkTold (rezoned src st slot (drop name line)) t
+  FormAnswer st line (Calendar slot name) t = MarkTold (recalendared src st slot (drop name line)) t
+  FormAnswer st line Listed t = Listing src st t
 
--- ── the whole call: refused where the buffer hasn't the room, and then nothing is altered ──
+  abbrev pub Answer : State → List ℕ → List ℕ → Type 0
+  Answer st line t = elim (read_line line) [ Ok form ↦ FormAnswer st line form t | Err m ↦ t ≡ refusal_line (Unreadable m.at) ]
 
-abbrev pub run_answer : List (Option Span) → List ℕ → List ℕ → Result ℕ Fault
-run_answer spans input out = cond (nat_lt (length out) (room_of (script_lines input))) (Err BufferSmall) (Ok (length (output spans (script_lines input))))
+  -- the state after a line
+  abbrev pub line_after : State → List ℕ → State
+  line_after st line = elim (read_line line) [ Ok form ↦ made src st (form_call line form) | Err m ↦ st ]
 
-abbrev pub run_out : List (Option Span) → List ℕ → List ℕ → List ℕ
-run_out spans input out =
-    cond (nat_lt (length out) (room_of (script_lines input))) out
-    (output spans (script_lines input) ++ drop (length (output spans (script_lines input))) out)
+  -- ── all lines, one after another ──
 
-abbrev pub run_spans : List (Option Span) → List ℕ → List ℕ → List (Option Span)
-run_spans spans input out = cond (nat_lt (length out) (room_of (script_lines input))) spans (spans_after spans (script_lines input))
+  -- the answers to lines, from a state on
+  pub data Output : State → List (List ℕ) → List ℕ → Type 0 where
+    none : (st : State) → Output st [] []
+    one_more : (st : State) (line : List ℕ) (lines : List (List ℕ)) (t rest : List ℕ) →
+        Answer st line t → Output (line_after st line) lines rest → Output st (line ∷ lines) (t ++ rest)
 
--- ── what a slot holds after lines, in words ──
+-- the room that the answer to a line in form is given: 100 bytes, and for `list` 100 bytes a slot
+abbrev pub form_room : ℕ → Line → ℕ
+form_room slots Listed = 100 * slots
+form_room slots form = 100
 
--- on a board of these spans, a line is accepted and enters s into the slot
-pub record Enters (spans : List (Option Span)) (line : List ℕ) (slot : ℕ) (s : Span) : Type 0 where
-  pub form : SpanLine
-  pub reads : read_line line ≡ Ok form
-  pub slot_is : form.slot ≡ slot
-  pub accepted : line_answer spans line ≡ Ok s
+-- the same of any line
+abbrev pub line_room : ℕ → List ℕ → ℕ
+line_room slots line = cond (bytes_eq line (codes "list")) (100 * slots) 100
 
--- no line enters anything into the slot
-abbrev pub NeverEntered : ℕ → List (Option Span) → List (List ℕ) → Type 0
-NeverEntered slot spans [] = Unit {0}
-NeverEntered slot spans (line ∷ lines) = ((s : Span) → Enters spans line slot s → ⊥) × NeverEntered slot (line_after spans line) lines
+unfoldable pub room_of : ℕ → List (List ℕ) → ℕ
+room_of slots [] = 0
+room_of slots (line ∷ lines) = line_room slots line + room_of slots lines
 
--- the slot holds what the last accepted line for it entered, or what it held before if there is none
-pub data HoldsLast (slot : ℕ) (spans : List (Option Span)) (lines : List (List ℕ)) : Option Span → Type 0 where
-  never : NeverEntered slot spans lines → HoldsLast slot spans lines (slot_at 256 spans slot)
-  by_line : (earlier later : List (List ℕ)) (line : List ℕ) (s : Span) → lines ≡ earlier ++ (line ∷ later)
-      → Enters (spans_after spans earlier) line slot s → NeverEntered slot (line_after (spans_after spans earlier) line) later
-      → HoldsLast slot spans lines (Some s)
+-- ── the whole call ──
 
-abbrev pub SlotsHoldLast : List (Option Span) → List (List ℕ) → List (Option Span) → Type 0
-SlotsHoldLast spans lines after = (slot : ℕ) → HoldsLast slot spans lines (slot_at 256 after slot)
+-- a buffer without the room is refused; else it holds the answers, and past them what it held before
+pub record Ran (src : Sources) (st : State) (slots : ℕ) (input before : List ℕ) (answer : Result ℕ Fault) (buffer : List ℕ) : Type 0 where
+  pub refused : length before < room_of slots (script_lines input) → (answer ≡ Err BufferSmall) × (buffer ≡ before)
+  pub accepted : room_of slots (script_lines input) ≤ length before →
+      (t : List ℕ) × Output src st (script_lines input) t × (answer ≡ Ok (length t)) × (buffer ≡ t ++ drop (length t) before)
 
--- a run that is accepted leaves in each slot what was entered there last, and a refused one leaves all as it was
-abbrev pub RunKeeps : List (Option Span) → List ℕ → Result ℕ Fault → List (Option Span) → Type 0
-RunKeeps spans input (Ok n) after = SlotsHoldLast spans (script_lines input) after
-RunKeeps spans input (Err fault) after = after ≡ spans
+-- the calls that are made: those of the script, and none where it is refused
+abbrev pub script_calls : ℕ → List ℕ → List ℕ → List Call
+script_calls slots input before = cond (nat_lt (length before) (room_of slots (script_lines input))) [] (calls_of (script_lines input))

@@ -1,6 +1,6 @@
 // Scripts for a board: lines of words, and the answer to each.
 #![tactic(auto)]
 
-pub mod line;
+mod answers;
 mod lines;
 pub mod run;

@@ -1,0 +1,4 @@
+pub mod Boards
+pub mod Leaves
+pub mod Runs
+pub mod Texts

@@ -1,0 +1,4 @@
+pub mod LineLive
+pub mod LineSound
+pub mod LineComplete
+pub mod LineAnswers

@@ -1,0 +1,34 @@
+use Rattle.std.proofs.Common.{List, None, Option, sym, ap, ◌∙◌}
+use Rattle.mark_text.specs.declared.mark.Mark.{Mark}
+use Rattle.shelf.specs.Loans.{memory}
+use Rattle.board_law.specs.Boards.{State, after, put_mark, lifted}
+use Rattle.board_law.proofs.Calls.{lifted_for}
+use Rattle.std.proofs.lemmas.Result.{err_from_is_err_and}
+use Rattle.board_law.proofs.Leaves.{mark_refused, mark_put}
+use Rattle.planboard.specs.View.{view, sources}
+use Rattle.planboard.proofs.States.{state_kept, state_left}
+use Rattle.planboard.proofs.board.Board.lift.Goals as goal
+
+pub returns-in_err-mark-clause-state : goal.returns-in_err-mark-clause-state
+unfolding after
+returns-in_err-mark-clause-state g c =
+    let src = sources g.Z.ZoneSource.zones g.C.CalendarSource.calendars c.args.self.now in
+    state_kept (view c.args.self.now) (lifted src (view c.args.self.now) c.args.slot) (λ x. put_mark (view c.args.self.now) (c.args.slot) (None)) _ (sym c.mark_to_lift.ensures ∙ c.in_err-mark.was)
+
+pub returns-clause-state : goal.returns-clause-state
+unfolding after
+returns-clause-state g c =
+    let src = sources g.Z.ZoneSource.zones g.C.CalendarSource.calendars c.args.self.now in
+    ap {B = State} (λ (ms : List (Option Mark)). record { marks = ms; spans = memory c.args.self.now.spans }) c.clear.ensures.state
+    ∙ state_left (view c.args.self.now) (lifted src (view c.args.self.now) c.args.slot) (λ x. put_mark (view c.args.self.now) (c.args.slot) (None)) _ (sym c.mark_to_lift.ensures ∙ c.in_ok-mark.was)
+
+pub returns-in_err-mark-clause-law : goal.returns-in_err-mark-clause-law
+returns-in_err-mark-clause-law g c =
+    let q = err_from_is_err_and c.from_residual.result c.from_residual.ensures.1 in
+    mark_refused (view c.args.self.now) c.args.slot (λ _. None) c.from_residual.result q.0 q.1
+
+pub returns-clause-law : goal.returns-clause-law
+returns-clause-law g c =
+    let src = sources g.Z.ZoneSource.zones g.C.CalendarSource.calendars c.args.self.now in
+    let on = (lifted_for src (view c.args.self.now) c.args.slot _ (sym c.mark_to_lift.ensures ∙ c.in_ok-mark.was)).on in
+    mark_put (view c.args.self.now) c.args.slot (λ _. None) _ _ on c.clear.ensures.law

@@ -1,5 +1,0 @@
-use Rattle.script.proofs.LineAnswers.{lawful}
-use Rattle.script.proofs.line.read_line.Goals as goal
-
-pub returns : goal.returns
-returns c = lawful c.args.line.now _ c.read_within.ensures

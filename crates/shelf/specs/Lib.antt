@@ -1,0 +1,3 @@
+pub mod Laws
+pub mod Loans
+pub mod Slots
