@@ -1,5 +1,5 @@
 #!/usr/bin/env python3
-"""Answers a script for `board` by the rules of docs/RULES.md, written apart from the library's code.
+"""Answers a script for `board` by the rules of docs/RULES.md; it runs nothing of the library.
 
 usage: python3 tools/board_rules.py SCRIPT ONE TWO                  prints the answers
        python3 tools/board_rules.py SCRIPT ONE TWO calls            prints each line of the script with its answer below it

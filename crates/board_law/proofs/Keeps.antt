@@ -23,6 +23,11 @@ module _ (src : Sources) where
   unfolding run
   run_none st = refl
 
+  -- a run of one call is that call
+  pub run_one : (st : State) (call : Call) {next : State} → next ≡ made src st call → next ≡ run src st (call ∷ [])
+  unfolding run
+  run_one st call e = e
+
   -- a run after a run is one run
   pub run_append : (st : State) (xs ys : List Call) → run src st (xs ++ ys) ≡ run src (run src st xs) ys
   unfolding run
@@ -53,20 +58,20 @@ module _ (src : Sources) (law : Lawful src) where
   step_slots : (st next : State) → Step src st next → SlotsStay st next
   step_slots st next (alters_none e) = subst (SlotsStay st) (sym e) (slots_same st)
   step_slots st next (puts_mark n o on there e) =
-      let w = written_law st.marks n o in
+      let w = written_law 256 st.marks n o in
       subst (SlotsStay st) (sym e) (record { marks = ap (λ k. min k 256) w.size; spans = refl; marks_past = w.past_cap; spans_past = refl })
   step_slots st next (puts_span n o on there e) =
-      let w = written_law st.spans n o in
+      let w = written_law 256 st.spans n o in
       subst (SlotsStay st) (sym e) (record { marks = refl; spans = ap (λ k. min k 256) w.size; marks_past = refl; spans_past = w.past_cap })
 
   -- nothing that no text can enter comes to stand
   step_there : (st next : State) → Step src st next → AllThere src st → AllThere src next
   step_there st next (alters_none e) t = subst (AllThere src) (sym e) t
   step_there st next (puts_mark n o on there e) t =
-      let good = all_good (There src) st.marks _ n o on (written_law st.marks n o) there t.marks in
+      let good = all_good 256 (There src) st.marks _ n o on (written_law 256 st.marks n o) there t.marks in
       subst (AllThere src) (sym e) (record { marks = good; spans = t.spans })
   step_there st next (puts_span n o on there e) t =
-      let good = all_good Enterable st.spans _ n o on (written_law st.spans n o) there t.spans in
+      let good = all_good 256 Enterable st.spans _ n o on (written_law 256 st.spans n o) there t.spans in
       subst (AllThere src) (sym e) (record { marks = t.marks; spans = good })
 
   -- what each step keeps, a run keeps
@@ -89,6 +94,6 @@ module _ (src : Sources) (law : Lawful src) where
 -- on a new board nothing stands
 pub new_there : (src : Sources) (marks : List (Option Mark)) (spans : List (Option Span)) → AllThere src (new_board marks spans)
 new_there src marks spans = record {
-  marks = λ n m e. none_some (sym ((all_empty marks).empty n) ∙ e);
-  spans = λ n s e. none_some (sym ((all_empty spans).empty n) ∙ e);
+  marks = λ n m e. none_some (sym ((all_empty 256 marks).empty n) ∙ e);
+  spans = λ n s e. none_some (sym ((all_empty 256 spans).empty n) ∙ e);
 }

@@ -1,8 +1,10 @@
 pub mod Calls
 pub mod Checks
+pub mod Judging
 pub mod Keeps
 pub mod Law
 pub mod Leaves
+pub mod Meanings
 pub mod Refused
 pub mod Slots
 pub mod There

@@ -13,23 +13,24 @@ module _ {A : Type 0} where
   short_of (x ∷ xs) zero a e = omega arith
   short_of (x ∷ xs) (suc n) a e = let h = short_of xs n a e in omega arith
 
+module _ {A : Type 0} (cap : ℕ) where
   -- a slot that holds something is on the shelf
-  pub on_it : (xs : List (Option A)) (n : ℕ) (a : A) → slot_at 256 xs n ≡ Some a → n < slot_count 256 xs
-  on_it xs n a e = let h = short_of (in_use 256 xs) n a e in omega (arith, length-take (slot_count 256 xs) xs)
+  pub on_it : (xs : List (Option A)) (n : ℕ) (a : A) → slot_at cap xs n ≡ Some a → n < slot_count cap xs
+  on_it xs n a e = let h = short_of (in_use cap xs) n a e in omega (arith, length-take (slot_count cap xs) xs)
 
-  pub written_law : (xs : List (Option A)) (n : ℕ) (o : Option A) → OnlySlotChanged 256 xs n o (written 256 xs n o)
+  pub written_law : (xs : List (Option A)) (n : ℕ) (o : Option A) → OnlySlotChanged cap xs n o (written cap xs n o)
   written_law xs n o =
-      ⊎_elim (λ (h : n < slot_count 256 xs). subst (OnlySlotChanged 256 xs n o) (set_written 256 xs n o h) (set_law 256 xs n o h))
-      (λ (h : slot_count 256 xs ≤ n). subst (OnlySlotChanged 256 xs n o) (kept_written 256 xs n o h) (kept_law 256 xs n o h))
-      (cases_lt n (slot_count 256 xs))
+      ⊎_elim (λ (h : n < slot_count cap xs). subst (OnlySlotChanged cap xs n o) (set_written cap xs n o h) (set_law cap xs n o h))
+      (λ (h : slot_count cap xs ≤ n). subst (OnlySlotChanged cap xs n o) (kept_written cap xs n o h) (kept_law cap xs n o h))
+      (cases_lt n (slot_count cap xs))
 
   -- of what is put in one slot alone, each thing is good where it was so before and what is put is so
-  pub all_good : (Good : A → Type 0) (xs ys : List (Option A)) (n : ℕ) (o : Option A) → n < slot_count 256 xs → OnlySlotChanged 256 xs n o ys → ((a : A) → o ≡ Some a → Good a) →
-      ((k : ℕ) (a : A) → slot_at 256 xs k ≡ Some a → Good a) → (k : ℕ) (a : A) → slot_at 256 ys k ≡ Some a → Good a
+  pub all_good : (Good : A → Type 0) (xs ys : List (Option A)) (n : ℕ) (o : Option A) → n < slot_count cap xs → OnlySlotChanged cap xs n o ys → ((a : A) → o ≡ Some a → Good a) →
+      ((k : ℕ) (a : A) → slot_at cap xs k ≡ Some a → Good a) → (k : ℕ) (a : A) → slot_at cap ys k ≡ Some a → Good a
   all_good Good xs ys n o on law put before k a e =
-      ⊎_elim (λ (s : k ≡ n). put a (sym (law.holds on) ∙ ap (slot_at 256 ys) (sym s) ∙ e))
+      ⊎_elim (λ (s : k ≡ n). put a (sym (law.holds on) ∙ ap (slot_at cap ys) (sym s) ∙ e))
       (λ (s : k ≡ n → ⊥). before k a (sym (law.others k s) ∙ e))
       (cases_eq k n)
 
-  pub all_empty : (xs : List (Option A)) → AllEmpty 256 xs (emptied 256 xs)
-  all_empty xs = let e = emptied_new 256 xs (slot_count 256 xs) _ refl refl in subst (AllEmpty 256 xs) e.state e.law
+  pub all_empty : (xs : List (Option A)) → AllEmpty cap xs (emptied cap xs)
+  all_empty xs = let e = emptied_new cap xs (slot_count cap xs) _ refl refl in subst (AllEmpty cap xs) e.state e.law

@@ -33,7 +33,7 @@ use Rattle.mark_text.proofs.Lookups.{number_own}
 use Rattle.mark_text.proofs.Tells.{then_ok}
 use Rattle.mark_text.proofs.There.{there_is, is_there}
 use Rattle.shelf.specs.Slots.{slot_at}
-use Rattle.board_law.specs.Boards.{There, Sources, State, span_there, span_at, mark_at, zone_of, calendar_of, zone_named, calendar_named, moved}
+use Rattle.board_law.specs.Boards.{There, Sources, State, span_there, span_at, mark_at, zone_of, calendar_of, zone_named, calendar_named, moved, in_zone, in_calendar, led}
 use Rattle.board_law.specs.Runs.{Lawful}
 use Rattle.board_law.proofs.Checks.{kept_tells, kept_is, found_tells}
 
@@ -118,16 +118,9 @@ module _ (src : Sources) where
       let t = then_ok (or_unreadable (scan_calendar_name name)) (λ _. ok_or found (UnknownCalendar 0)) k e in
       number_own src.calendars.name name src.calendars.count k (found_tells found (UnknownCalendar 0) k t.next)
 
-  -- the same mark in another zone, and in another calendar
-  abbrev pub in_zone : Mark → ℕ → Result Mark Fault
-  in_zone m z = arriving (src.zones.value z) m.instant >>= λ _. Ok (record { instant = m.instant; zone = z; calendar = m.calendar })
-
-  abbrev pub in_calendar : Mark → ℕ → Result Mark Fault
-  in_calendar m k = Ok (record { instant = m.instant; zone = m.zone; calendar = k })
-
-  pub rezoned_there : (m : Mark) (name : List ℕ) (r : Mark) → There src m → (zone_named src name >>= in_zone m) ≡ Ok r → There src r
+  pub rezoned_there : (m : Mark) (name : List ℕ) (r : Mark) → There src m → (zone_named src name >>= in_zone src m) ≡ Ok r → There src r
   rezoned_there m name r t e =
-      let z = then_ok (zone_named src name) (in_zone m) r e in
+      let z = then_ok (zone_named src name) (in_zone src m) r e in
       let zone = src.zones.value z.value in
       let i = then_ok (arriving zone m.instant) (λ _. Ok (record { instant = m.instant; zone = z.value; calendar = m.calendar })) r z.next in
       let a = arriving_tells zone m.instant i.value (sym i.was) in
@@ -138,8 +131,7 @@ module _ (src : Sources) where
       let k = then_ok (calendar_named src name) (in_calendar m) r e in
       subst (There src) (ok_same k.next) (record { zone = t.zone; calendar = calendar_lowest name k.value k.was; known = t.known })
 
-  pub carried_there : (m : Mark) (s : Span) (r : Mark) → There src m →
-      (carry_answer (zone_of src m) (calendar_of src m) m.instant s >>= λ i. Ok (moved m i)) ≡ Ok r → There src r
+  pub carried_there : (m : Mark) (s : Span) (r : Mark) → There src m → led src m s ≡ Ok r → There src r
   carried_there m s r t e =
       let i = then_ok (carry_answer (zone_of src m) (calendar_of src m) m.instant s) (λ i. Ok (moved m i)) r e in
       subst (There src) (ok_same i.next) (moved_there m i.value t (carried_known (zone_of src m) (calendar_of src m) m.instant s i.value i.was))

@@ -69,8 +69,11 @@ span_there s = elim (wrong_part s) [ Some part ↦ false | None ↦ true ]
 abbrev pub span_at : State → ℕ → Option Span
 span_at st n = kept span_there (slot_at 256 st.spans n)
 
+abbrev pub mark_among : Sources → List (Option Mark) → ℕ → Option Mark
+mark_among src marks n = kept (is_there src) (slot_at 256 marks n)
+
 abbrev pub mark_at : Sources → State → ℕ → Option Mark
-mark_at src st n = kept (is_there src) (slot_at 256 st.marks n)
+mark_at src st n = mark_among src st.marks n
 
 -- the zone and the calendar of a mark
 abbrev pub zone_of : Sources → Mark → Zone
@@ -103,9 +106,30 @@ calendar_named src name =
 
 -- ── what the calls answer ──
 
--- the same mark at another instant
+-- the same mark at another instant, and in another calendar
 abbrev pub moved : Mark → ℤ → Mark
 moved m i = record { instant = i; zone = m.zone; calendar = m.calendar }
+
+abbrev pub in_calendar : Mark → ℕ → Result Mark Fault
+in_calendar m k = Ok (record { instant = m.instant; zone = m.zone; calendar = k })
+
+module _ (src : Sources) where
+  -- the same mark in another zone, which needs an offset at its instant
+  abbrev pub in_zone : Mark → ℕ → Result Mark Fault
+  in_zone m z = arriving (src.zones.value z) m.instant >>= λ _. Ok (record { instant = m.instant; zone = z; calendar = m.calendar })
+
+  -- where a span leads from a mark
+  abbrev pub led : Mark → Span → Result Mark Fault
+  led m s = carry_answer (zone_of src m) (calendar_of src m) m.instant s >>= λ i. Ok (moved m i)
+
+module _ (src : Sources) (marks : List (Option Mark)) where
+  -- the span from a mark to that in slot b, over the first's zone and calendar
+  abbrev pub span_to : ℕ → Measure → Mark → Result Span Fault
+  span_to b unit A = filled (mark_among src marks b) 1 >>= λ B. measure_answer (zone_of src A) (calendar_of src A) unit A.instant B.instant
+
+  -- the span from the mark in slot a to that in slot b
+  abbrev pub between : ℕ → ℕ → Measure → Result Span Fault
+  between a b unit = filled (mark_among src marks a) 0 >>= span_to b unit
 
 module _ (src : Sources) (st : State) where
   -- a text says a mark for slot n
@@ -120,31 +144,25 @@ module _ (src : Sources) (st : State) where
   abbrev pub entered : ℕ → List ℕ → Result Span Fault
   entered n text = on_shelf (span_slots st) n 0 >>= λ _. read_span text
 
-  -- the span from the mark in slot a to that in slot b, for slot n, over the first's zone and calendar
+  -- the span from the mark in slot a to that in slot b, for slot n
   abbrev pub measured : ℕ → ℕ → Measure → ℕ → Result Span Fault
   measured a b unit n =
       on_shelf (mark_slots st) a 0 >>= λ _. on_shelf (mark_slots st) b 1 >>= λ _. on_shelf (span_slots st) n 2 >>= λ _.
-      filled (mark_at src st a) 0 >>= λ A. filled (mark_at src st b) 1 >>= λ B.
-      measure_answer (zone_of src A) (calendar_of src A) unit A.instant B.instant
+      between src st.marks a b unit
 
   -- the mark to which the mark in slot a is carried by the span in slot n, for slot c
   abbrev pub carried : ℕ → ℕ → ℕ → Result Mark Fault
   carried a n c =
       on_shelf (mark_slots st) a 0 >>= λ _. on_shelf (span_slots st) n 1 >>= λ _. on_shelf (mark_slots st) c 2 >>= λ _.
-      filled (mark_at src st a) 0 >>= λ A. filled (span_at st n) 1 >>= λ s.
-      carry_answer (zone_of src A) (calendar_of src A) A.instant s >>= λ i. Ok (moved A i)
+      filled (mark_at src st a) 0 >>= λ A. filled (span_at st n) 1 >>= led src A
 
   -- the mark in slot n at its instant in the zone that bears a name
   abbrev pub rezoned : ℕ → List ℕ → Result Mark Fault
-  rezoned n name =
-      on_shelf (mark_slots st) n 0 >>= λ _. filled (mark_at src st n) 0 >>= λ A. zone_named src name >>= λ z.
-      arriving (src.zones.value z) A.instant >>= λ _. Ok (record { instant = A.instant; zone = z; calendar = A.calendar })
+  rezoned n name = on_shelf (mark_slots st) n 0 >>= λ _. filled (mark_at src st n) 0 >>= λ A. zone_named src name >>= in_zone src A
 
   -- the mark in slot n in the calendar that bears a name
   abbrev pub recalendared : ℕ → List ℕ → Result Mark Fault
-  recalendared n name =
-      on_shelf (mark_slots st) n 0 >>= λ _. filled (mark_at src st n) 0 >>= λ A. calendar_named src name >>= λ k.
-      Ok (record { instant = A.instant; zone = A.zone; calendar = k })
+  recalendared n name = on_shelf (mark_slots st) n 0 >>= λ _. filled (mark_at src st n) 0 >>= λ A. calendar_named src name >>= in_calendar A
 
   -- the mark or the span in slot n whose text is written to a buffer of a length
   abbrev pub mark_written : ℕ → ℕ → Result Mark Fault
@@ -171,6 +189,13 @@ listed src st room = roomy (100 * marks_there src st) room
 
 -- ── calls ──
 
+-- the state once a mark, or a span, that is answered stands in slot n
+abbrev pub with_mark : State → ℕ → Result Mark Fault → Result State Fault
+with_mark st n answer = answer >>= λ m. Ok (put_mark st n (Some m))
+
+abbrev pub with_span : State → ℕ → Result Span Fault → Result State Fault
+with_span st n answer = answer >>= λ s. Ok (put_span st n (Some s))
+
 -- `room` is the length of the buffer that a text is written to
 pub data Call : Type 0 where
   place : (slot : ℕ) (text : List ℕ) → Call
@@ -187,13 +212,13 @@ pub data Call : Type 0 where
 module _ (src : Sources) where
   -- the state after a call, or why it is refused
   unfoldable pub after : State → Call → Result State Fault
-  after st (place n text) = placed src st n text >>= λ m. Ok (put_mark st n (Some m))
+  after st (place n text) = with_mark st n (placed src st n text)
   after st (lift n) = lifted src st n >>= λ _. Ok (put_mark st n None)
-  after st (enter n text) = entered src st n text >>= λ s. Ok (put_span st n (Some s))
-  after st (measure a b unit n) = measured src st a b unit n >>= λ s. Ok (put_span st n (Some s))
-  after st (carry a n c) = carried src st a n c >>= λ m. Ok (put_mark st c (Some m))
-  after st (rezone n name) = rezoned src st n name >>= λ m. Ok (put_mark st n (Some m))
-  after st (recalendar n name) = recalendared src st n name >>= λ m. Ok (put_mark st n (Some m))
+  after st (enter n text) = with_span st n (entered src st n text)
+  after st (measure a b unit n) = with_span st n (measured src st a b unit n)
+  after st (carry a n c) = with_mark st c (carried src st a n c)
+  after st (rezone n name) = with_mark st n (rezoned src st n name)
+  after st (recalendar n name) = with_mark st n (recalendared src st n name)
   after st (write_mark n room) = mark_written src st n room >>= λ _. Ok st
   after st (write_span n room) = span_written src st n room >>= λ _. Ok st
   after st (list_marks room) = listed src st room >>= λ _. Ok st

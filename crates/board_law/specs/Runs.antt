@@ -1,5 +1,5 @@
 -- The law over runs of calls: a measured span stays true of its two marks, whatever else is done on the board.
-use Rattle.std.specs.Prelude.{◌≡◌, ◌⊎◌, ℕ, ◌<◌, false, List, ◌∷◌, ◌++◌, drop, Some, Ok, Err, Option}
+use Rattle.std.specs.Prelude.{◌≡◌, ◌⊎◌, ℕ, ◌<◌, false, List, [], ◌∷◌, ◌++◌, drop, Some, Ok, Err, Option, Result}
 use Rattle.timebase.specs.declared.fault.Fault.{Fault}
 use Rattle.timebase.specs.declared.span.Span.{Span}
 use Rattle.timebase.specs.Faults.{told}
@@ -12,7 +12,7 @@ use Rattle.span_law.specs.Law.{TrueSpan, Beyond, Smaller}
 use Rattle.mark_text.specs.declared.mark.Mark.{Mark}
 use Rattle.shelf.specs.Laws.{OnlySlotChanged}
 use Rattle.shelf.specs.Slots.{slot_at}
-use Rattle.board_law.specs.Boards.{Sources, State, mark_slots, span_slots, new_board, span_at, mark_at, zone_of, calendar_of, There, moved, Call, measure, carry, after, run}
+use Rattle.board_law.specs.Boards.{Sources, State, mark_slots, span_slots, new_board, span_at, mark_at, zone_of, calendar_of, There, moved, Call, measure, carry, after, made, run}
 
 -- what every zone source and every calendar source shows
 pub record Lawful (src : Sources) : Type 0 where
@@ -49,6 +49,19 @@ module _ (src : Sources) where
     pub arrives : (c : ℕ) → c < mark_slots st → Arrives st a n c (moved A B.instant)
     pub is_true : TrueSpan (zone_of src A) (calendar_of src A) unit A.instant B.instant s
 
+  -- what a carry answers, for slot c: by a span that some call measured and that stands in its slot, as do the two marks, it leads from
+  -- the first to the second's instant
+  abbrev pub LeadsTrue : State → ℕ → ℕ → ℕ → Result Mark Fault → Type 0
+  LeadsTrue st a n c answer = (start : State) (calls : List Call) (b : ℕ) (unit : Measure) (A B : Mark) (s : Span) →
+      MeasuredIn start calls a b n unit A B s → Holds st a b n A B s → c < mark_slots st → answer ≡ Ok (moved A B.instant)
+
+  -- in the slots of a measuring stand both marks, and a span that is true of them
+  pub record TrueHere (st : State) (a b n : ℕ) (unit : Measure) (s : Span) : Type 0 where
+    pub A : Mark
+    pub B : Mark
+    pub holds : Holds st a b n A B s
+    pub is_true : TrueOn st a b n unit A B s
+
   -- whatever stands in a slot can be entered by a text
   pub record AllThere (st : State) : Type 0 where
     pub marks : (n : ℕ) (m : Mark) → slot_at 256 st.marks n ≡ Some m → There src m
@@ -66,7 +79,29 @@ module _ (src : Sources) where
     pub marks_past_cap : drop 256 end.marks ≡ drop 256 start.marks
     pub spans_past_cap : drop 256 end.spans ≡ drop 256 start.spans
 
+  -- the same after calls that go on from a state, from whatever start earlier calls led to it
+  abbrev pub KeepsOn : State → List Call → State → Type 0
+  KeepsOn now calls end = (start : State) (earlier : List Call) → run src start earlier ≡ now → RunKeeps start (earlier ++ calls) end
+
+  -- a call leaves in the slots of two marks and of a span what they held
+  pub record LeavesBe (a b n : ℕ) (before after : State) : Type 0 where
+    pub first : slot_at 256 after.marks a ≡ slot_at 256 before.marks a
+    pub second : slot_at 256 after.marks b ≡ slot_at 256 before.marks b
+    pub span : slot_at 256 after.spans n ≡ slot_at 256 before.spans n
+
+  -- of the calls of a list, none that is accepted alters one of the three slots
+  pub data Unaltered (a b n : ℕ) : State → List Call → Type 0 where
+    none : (st : State) → Unaltered a b n st []
+    one_more : (st : State) (call : Call) (calls : List Call) →
+        ((next : State) → after src st call ≡ Ok next → LeavesBe a b n st next) → Unaltered a b n (made src st call) calls →
+        Unaltered a b n st (call ∷ calls)
+
   pub record SpansStayTrue : Type 0 where
+    -- on any board, made new or holding whatever else, after any calls, what an accepted measuring leaves is true until an accepted call
+    -- alters one of its slots
+    pub until : (start : State) (before later : List Call) (next : State) (a b n : ℕ) (unit : Measure) →
+        after src (run src start before) (measure a b unit n) ≡ Ok next → Unaltered a b n next later →
+        (A : Mark) × (B : Mark) × (s : Span) × Holds next a b n A B s × TrueOn (run src next later) a b n unit A B s
     -- measuring is accepted wherever its slots are on the shelf, its marks are there, and the first's zone has an offset at the second's
     -- instant
     pub accepts : (st : State) (a b n : ℕ) (unit : Measure) (A B : Mark) → mark_at src st a ≡ Some A → mark_at src st b ≡ Some B →

@@ -4,7 +4,7 @@ use Rattle.timebase.specs.declared.fault.Fault.{Fault}
 use Rattle.timebase.specs.declared.span.Span.{Span}
 use Rattle.span_text.specs.Canonical.{span_text}
 use Rattle.mark_text.specs.declared.mark.Mark.{Mark}
-use Rattle.mark_text.specs.Shown.{Canonical}
+use Rattle.mark_text.specs.Shown.{TextOf}
 use Rattle.board_law.specs.Boards.{Sources, State, mark_at, span_at, one_if, Call, write_mark, write_span, list_marks, after, made}
 
 -- how often a number stands in a list
@@ -17,7 +17,7 @@ module _ (src : Sources) where
     pub mark : Mark
     pub held : mark_at src st k ≡ Some mark
     pub text : List ℕ
-    pub canonical : Canonical src.zones src.calendars mark text
+    pub canonical : TextOf src.zones src.calendars mark text
     pub is : line ≡ decimal k ++ (32 ∷ (text ++ (10 ∷ [])))
 
   -- lines of slots, one after another
@@ -33,7 +33,7 @@ module _ (src : Sources) where
 
   -- the text that a call writes when it is accepted; most write none
   abbrev pub Writes : State → Call → List ℕ → Type 0
-  Writes st (write_mark n room) t = (m : Mark) × (mark_at src st n ≡ Some m) × Canonical src.zones src.calendars m t
+  Writes st (write_mark n room) t = (m : Mark) × (mark_at src st n ≡ Some m) × TextOf src.zones src.calendars m t
   Writes st (write_span n room) t = (s : Span) × (span_at st n ≡ Some s) × (t ≡ span_text s)
   Writes st (list_marks room) t = Listing st t
   Writes st call t = t ≡ []

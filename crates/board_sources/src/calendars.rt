@@ -9,8 +9,14 @@ use calendar::source::CalendarSource;
 use hebrew::Hebrew;
 use iso8601::Iso8601;
 
+// The Gregorian calendar is a source: of one calendar, told by its rule under a name.
+pub type GregorianCalendar = Single<Iso8601>;
+
+// The Hebrew calendar is a source: of one calendar, told by its rule under a name.
+pub type HebrewCalendar = Single<Hebrew>;
+
 // `iso8601` and `hebrew`, side by side.
-pub type BoardCalendars = Beside<Single<Iso8601>, Single<Hebrew>>;
+pub type BoardCalendars = Beside<GregorianCalendar, HebrewCalendar>;
 
 pub fn calendars() -> BoardCalendars
     ensures { (⟦<BoardCalendars as CalendarSource>⟧).calendars result ≡ board_calendars }

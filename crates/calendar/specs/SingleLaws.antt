@@ -9,9 +9,10 @@ use Rattle.names.specs.Scanning.{read_calendar_name}
 use Rattle.years.specs.declared.date.Date.{Date}
 use Rattle.years.specs.Dates.{Years, Valid, after, next, number}
 use Rattle.years.specs.declared.rule.Year.{Year}
-use Rattle.years.specs.Rules.{IsYear, YearAnswer, length_in}
+use Rattle.years.specs.Rules.{year_in, length_in}
 use Rattle.years.specs.Days.{Fitting, Bounded, Twins, YearsLaws, InRange, DateAnswer, DayAnswer}
 use Rattle.years.proofs.Numbers.{There, there, there_is, found, start_rises, number_high}
+use Rattle.years.proofs.Told.{IsYear, is_year, answered, low_test, high_test, low_tells, high_tells}
 use Rattle.calendar.specs.Calendars.{Calendar, CalendarLaws, CalendarsLaws, last_day, year_there, month_there, asked, date_in, day_of}
 use Rattle.calendar.specs.Singles.{valid_date, in_days, day_number, calendar_of, single, single_count}
 
@@ -32,18 +33,6 @@ module _ (ys : Years) (laws : YearsLaws ys) where
   in_range n low high = record { low = low; high = high }
 
   -- ── the number of a date ──
-
-  low_test : (x y : ℤ) → x ≤ℤ y → int_le x y ≡ true
-  low_test x y h = grind (arith, ints)
-
-  high_test : (x y : ℤ) → x <ℤ y → int_lt x y ≡ true
-  high_test x y h = grind (arith, ints)
-
-  low_tells : (x y : ℤ) → int_le x y ≡ true → x ≤ℤ y
-  low_tells x y h = grind (arith, ints)
-
-  high_tells : (x y : ℤ) → int_lt x y ≡ true → x <ℤ y
-  high_tells x y h = grind (arith, ints)
 
   valid_test : (d : Date) → ys.first ≤ℤ d.year → d.year <ℤ ys.past → Valid ys.shape d → valid_date ys d ≡ true
   valid_test d low high v =
@@ -155,10 +144,10 @@ module _ (ys : Years) where
           let high : y ≤ℤ (ys.past -ℤ pos 1) = grind (arith, ints) in
           absurd (out low (omega (arith, ints)))
 
-  pub year_answer : (y : ℤ) (r : Option Year) → YearAnswer ys y r → (x : Year → Option ℕ) (z : Option ℕ)
+  pub year_answer : (y : ℤ) (r : Option Year) → r ≡ year_in ys y → (x : Year → Option ℕ) (z : Option ℕ)
       → ((w : Year) → IsYear ys y w → x w ≡ z) → (elim r [ Some w ↦ x w | None ↦ None ]) ≡ cond (year_there one y) z None
-  year_answer y (Some w) a x z f = f w a.2 ∙ ap (λ b. cond b z None) (sym (in_years y a.0 a.1))
-  year_answer y None a x z f = ap (λ b. cond b z None) (sym (out_of_years y a))
+  year_answer y (Some w) e x z f = let a = answered ys y (Some w) e in f w (is_year ys y w a.2) ∙ ap (λ b. cond b z None) (sym (in_years y a.0 a.1))
+  year_answer y None e x z f = ap (λ b. cond b z None) (sym (out_of_years y (answered ys y None e)))
 
   both : {a b c d : Bool} → a ≡ b → c ≡ d → ◌≡◌ {A = Bool × Bool} (a, c) (b, d)
   both p q = cc
@@ -183,8 +172,10 @@ module _ (ys : Years) where
           ∙ (ap (λ t. cond t (Some (slice_index w.lengths (m - 1))) None) l
           ∙ (ap Some (i.lengths m low high) ∙ sym (ap (λ (t : Bool × Bool). cond (t.0 && t.1) (Some (ys.shape.size y m)) None) (both p (same true q)))))
 
-  pub length_there : (y : ℤ) (m : ℕ) (w : Year) → ys.first ≤ℤ y → y <ℤ ys.past → IsYear ys y w → ys.shape.months y ≤ 14 → length_in w m ≡ cond (month_there one y m) (Some (ys.shape.size y m)) None
-  length_there y m w low high i few = length_is y m w i few ∙ ap (λ b. cond (b && (nat_le 1 m && nat_le m (ys.shape.months y))) (Some (ys.shape.size y m)) None) (sym (in_years y low high))
+  pub length_there : (y : ℤ) (m : ℕ) (w : Year) → Some w ≡ year_in ys y → ys.shape.months y ≤ 14 → length_in w m ≡ cond (month_there one y m) (Some (ys.shape.size y m)) None
+  length_there y m w e few =
+      let a = answered ys y (Some w) e in
+      length_is y m w (is_year ys y w a.2) few ∙ ap (λ b. cond (b && (nat_le 1 m && nat_le m (ys.shape.months y))) (Some (ys.shape.size y m)) None) (sym (in_years y a.0 a.1))
 
   -- ── questions to the source ──
 

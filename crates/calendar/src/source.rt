@@ -8,8 +8,8 @@ use years::date::Date;
 // The most calendars of a source.
 pub const CALENDARS_MOST: usize = ENTRIES_MOST;
 
-// A table of calendars, numbered from 0. The meaning is the ghost member: each answer is an equation over it. A number,
-// year, month, day or date that is not there is answered as none.
+// A table of calendars, numbered from 0. The meaning is the ghost member: each answer is told by it. A number, year, month,
+// day or date that is not there is answered as none.
 pub trait CalendarSource {
     ghost calendars: { Self → Calendars };
 

@@ -1,5 +1,5 @@
 // The look-up in a file's second block.
-ghost use Rattle.std.specs.Prelude.{◌≡◌, ℕ, List, slice_index_or, ◌+◌, ◌*◌, ◌<◌, ◌≤◌, length};
+ghost use Rattle.std.specs.Prelude.{◌≡◌, ℕ, List, int_le, slice_index_or, ◌+◌, ◌*◌, ◌<◌, ◌≤◌, length};
 ghost use Rattle.tzif.specs.Fields.{second8};
 ghost use Rattle.file_zone.specs.Blocks.{second_at, index_of, offset_of, offset_after, Passed};
 ghost use Rattle.file_zone.specs.Telling.{first_in, steps_in};
@@ -44,7 +44,11 @@ impl Block<'_> {
     fn passed(&self, at: i64) -> usize
         ensures { Passed self.now.bytes.now self.now.times at result }
     {
-        self.seconds().partition_point(|t| second(t) <= at)
+        self.seconds().partition_point(
+            |t|
+                ensures { result ≡ int_le (second8 t.now 0) at }
+            { second(t) <= at },
+        )
     }
 
     // The offset of a type. As with `second`, tzif has the like with a premise.

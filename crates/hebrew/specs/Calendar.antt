@@ -1,7 +1,8 @@
 -- The Hebrew calendar, its months counted from Tishri. Years here are natural numbers; all divisions round downward.
-use Rattle.std.specs.Prelude.{ℕ, zero, suc, ◌+◌, ◌-◌, ◌*◌, ◌/◌, ◌%◌, Bool, true, false, cond, not, ◌&&◌, ◌||◌, List, [], ◌∷◌, ℤ, pos, ◌-ℤ◌, ◌==◌, nat_le, nat_lt, unsigned_abs}
+use Rattle.std.specs.Prelude.{ℕ, ◌+◌, ◌-◌, ◌*◌, ◌/◌, ◌%◌, min, Bool, true, false, cond, not, ◌&&◌, ◌||◌, List, [], ◌∷◌, ℤ, pos, ◌-ℤ◌, ◌==◌, nat_le, nat_lt, unsigned_abs}
 use Rattle.years.specs.declared.date.Date.{Date}
 use Rattle.years.specs.Dates.{Shape, Years}
+use Rattle.years.specs.Rules.{listed}
 
 -- the months before a year
 abbrev pub elapsed : ℕ → ℕ
@@ -56,11 +57,6 @@ with_sixth m = cond (nat_lt m 6) (by_turns m) (cond (m == 6) 30 (by_turns (m - 1
 abbrev pub month_length : Bool → ℕ → ℕ → ℕ
 month_length b n m = cond (m == 2) (marheshvan n) (cond (m == 3) (kislev n) (cond b (with_sixth m) (by_turns m)))
 
--- the values of f at k numbers from m on, before the rest
-abbrev pub listed : (ℕ → ℕ) → ℕ → ℕ → List ℕ → List ℕ
-listed f m zero rest = rest
-listed f m (suc k) rest = f m ∷ listed f (suc m) k rest
-
 -- the lengths of the months, and 0 up to the fourteenth
 abbrev pub leap_lengths : ℕ → List ℕ
 leap_lengths n = listed (month_length true n) 1 13 (0 ∷ [])
@@ -89,6 +85,18 @@ moved here there m = cond (not here && (there && (nat_le 6 m && nat_le m 12))) (
 abbrev pub twin : ℤ → ℕ → ℤ → ℕ
 twin year month other = moved (leap (unsigned_abs year)) (leap (unsigned_abs other)) month
 
+-- a guess at the year of a day: 400 years have about 146,099 days
+abbrev pub guess : ℕ → ℕ
+guess n = (min n 3652059 + 475) * 400 / 146099 + 3760
+
 -- years 3761 to 13,760
 abbrev pub hebrew_years : Years
-hebrew_years = record { shape = hebrew; start = hebrew_start; first = pos 3761; past = pos 13761; origin = day_one; twin = twin }
+hebrew_years = record {
+  shape = hebrew;
+  start = hebrew_start;
+  first = pos 3761;
+  past = pos 13761;
+  origin = day_one;
+  twin = twin;
+  guess = λ n. pos (guess n);
+}

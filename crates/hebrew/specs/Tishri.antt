@@ -1,11 +1,11 @@
 -- The Hebrew years fit together, and a year is guessed from the mean year.
-use Rattle.std.specs.Prelude.{◌≡◌, ℕ, zero, suc, ◌+◌, ◌-◌, ◌*◌, ◌/◌, ◌<◌, ◌≤◌, Bool, true, false, ◌&&◌, T, ℤ, pos, negsuc, ◌+ℤ◌, ◌-ℤ◌, ◌≤ℤ◌, ◌<ℤ◌, nat_le, unsigned_abs, refl}
+use Rattle.std.specs.Prelude.{◌≡◌, ℕ, zero, suc, ◌+◌, ◌-◌, ◌*◌, ◌<◌, ◌≤◌, Bool, true, false, ◌&&◌, min, T, ℤ, pos, negsuc, ◌+ℤ◌, ◌-ℤ◌, ◌≤ℤ◌, ◌<ℤ◌, nat_le, unsigned_abs, refl}
 use Rattle.std.proofs.Common.{◌∙◌, ap, arith, leb→le}
 use Rattle.std.proofs.lemmas.Int.{ints}
 use Rattle.std.proofs.lemmas.Bool.Decides.{nat_tests}
 use Rattle.years.specs.Dates.{days_in, Adds}
 use Rattle.years.specs.Days.{Fitting, InRange, Near}
-use Rattle.hebrew.specs.Calendar.{new_year, year_start, leap, length_of_year, months_of, month_length, hebrew, hebrew_start, hebrew_years}
+use Rattle.hebrew.specs.Calendar.{new_year, year_start, leap, length_of_year, months_of, month_length, hebrew, hebrew_start, guess, hebrew_years}
 use Rattle.years.proofs.Guesses.{near_by}
 use Rattle.hebrew.specs.Tables.{every, within, both_left, both_right}
 
@@ -114,16 +114,15 @@ hebrew_fits = record {
 }
 
 -- the day lies in year y: the guess is at most one year off
-near : (y n : ℕ) → Right y → 3761 ≤ y → year_start y ≤ n + 1373427 → n + 1373427 < year_start (y + 1) →
-    (y ≤ (n + 475) * 400 / 146099 + 3760 + 1) × ((n + 475) * 400 / 146099 + 3760 ≤ y + 1)
-near y n r low starts ends = (omega arith, omega arith)
+near : (y n : ℕ) → n ≤ 3652059 → Right y → 3761 ≤ y → year_start y ≤ n + 1373427 → n + 1373427 < year_start (y + 1) → (y ≤ guess n + 1) × (guess n ≤ y + 1)
+near y n top r low starts ends = let e : min n 3652059 ≡ n = omega arith in rw e (omega arith, omega arith)
 
-pub hebrew_near : (n : ℕ) (g : ℤ) → InRange n → g ≡ pos ((n + 475) * 400 / 146099 + 3760) → Near hebrew_years n g
-hebrew_near n g r e = near_by hebrew_years hebrew_fits n g r (beside n g e)
+pub hebrew_near : (n : ℕ) → InRange n → Near hebrew_years n (pos (guess n))
+hebrew_near n r = near_by hebrew_years hebrew_fits n (pos (guess n)) r beside
   where
-    beside : (n : ℕ) (g : ℤ) → g ≡ pos ((n + 475) * 400 / 146099 + 3760) → (y : ℤ) → pos 3761 ≤ℤ y → y <ℤ pos 13761 → hebrew_start y ≤ℤ pos n → pos n <ℤ hebrew_start (y +ℤ pos 1) → ((y -ℤ pos 1) ≤ℤ g) × (g ≤ℤ (y +ℤ pos 1))
-    beside n g e (pos y) low high starts ends =
-        let r = right_year y (omega (arith, ints)) (omega (arith, ints)) in
-        let b = near y n r (omega (arith, ints)) (omega (arith, ints)) (omega (arith, ints)) in
+    beside : (y : ℤ) → pos 3761 ≤ℤ y → y <ℤ pos 13761 → hebrew_start y ≤ℤ pos n → pos n <ℤ hebrew_start (y +ℤ pos 1) → ((y -ℤ pos 1) ≤ℤ pos (guess n)) × (pos (guess n) ≤ℤ (y +ℤ pos 1))
+    beside (pos y) low high starts ends =
+        let right = right_year y (omega (arith, ints)) (omega (arith, ints)) in
+        let b = near y n r.high right (omega (arith, ints)) (omega (arith, ints)) (omega (arith, ints)) in
         (omega (arith, ints), omega (arith, ints))
-    beside n g e (negsuc y) low high starts ends = absurd low.le
+    beside (negsuc y) low high starts ends = absurd low.le

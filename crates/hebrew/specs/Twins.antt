@@ -5,7 +5,7 @@ use Rattle.std.proofs.lemmas.Bool.Decides.{nat_tests}
 use Rattle.std.proofs.lemmas.Int.{ints}
 use Rattle.years.specs.Days.{Bounded, Twins, YearsLaws}
 use Rattle.hebrew.specs.Calendar.{leap, months_of, hebrew, hebrew_years, new_year, year_start, moved, twin}
-use Rattle.hebrew.specs.Tishri.{hebrew_fits}
+use Rattle.hebrew.specs.Tishri.{hebrew_fits, hebrew_near}
 
 inside : (a b : Bool) (m : ℕ) → 1 ≤ m → m ≤ months_of a → (1 ≤ moved a b m) × (moved a b m ≤ months_of b)
 inside true true m low high = (low, high)
@@ -33,4 +33,4 @@ unfolding year_start new_year
 hebrew_bounded = record { first = refl; last = omega (arith, ints) }
 
 pub hebrew_laws : YearsLaws hebrew_years
-hebrew_laws = record { fitting = hebrew_fits; bounded = hebrew_bounded; twins = hebrew_twins }
+hebrew_laws = record { fitting = hebrew_fits; bounded = hebrew_bounded; twins = hebrew_twins; guessed = hebrew_near }

@@ -3,8 +3,8 @@
 #![tactic(auto)]
 
 ghost use Rattle.std.specs.Prelude.{◌≡◌, ◌+◌, ◌*◌, ◌/◌, ◌<◌, ◌≤◌, pos};
-ghost use Rattle.hebrew.specs.Calendar.{leap, elapsed, molad_day, postponed, corrected, year_start, marheshvan, kislev, months_of, lengths, hebrew_years, moved as moved_month};
-ghost use Rattle.years.specs.Rules.{IsYear};
+ghost use Rattle.hebrew.specs.Calendar.{leap, elapsed, molad_day, postponed, corrected, year_start, marheshvan, kislev, months_of, lengths, guess as year_guess, hebrew_years, moved as moved_month};
+ghost use Rattle.years.specs.Rules.{year_of as rule_year};
 ghost use Rattle.hebrew.specs.Twins.{hebrew_laws};
 
 use years::days::LAST_DAY;
@@ -109,7 +109,7 @@ fn months_of(leap_year: bool) -> u8
 
 fn year_of(year: u32) -> Year
     requires { (3761 ≤ year) × (year < 13761) }
-    ensures { IsYear hebrew_years (pos year) result }
+    ensures { result ≡ rule_year hebrew_years (pos year) }
 {
     let (start, next) = starts_of(year);
     let days = (next - start) as u16;
@@ -122,10 +122,11 @@ fn year_of(year: u32) -> Year
     }
 }
 
-// The year of a day, or one beside it: 400 years have about 146,099 days, and with 475 days added few guesses are wrong. A
-// function for this and the Gregorian guess would take all their numbers, and say no less.
+// The year of a day, or one beside it: 400 years have about 146,099 days, and with 475 days added few guesses are wrong.
+// Days past the last are taken for the last. A function for this and the Gregorian guess would take all their numbers, and
+// say no less.
 fn guess(day: u32) -> u32
-    ensures is { day ≤ 3652059 → result ≡ (day + 475) * 400 / 146099 + 3760 }
+    ensures is { result ≡ year_guess day }
     ensures fits { result ≤ 13761 }
 {
     (day.min(LAST_DAY) + 475) * 400 / 146_099 + 3760

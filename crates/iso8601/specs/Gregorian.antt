@@ -1,5 +1,5 @@
 -- The Gregorian calendar, carried back to year 1.
-use Rattle.std.specs.Prelude.{ℕ, ◌+◌, ◌-◌, ◌*◌, ◌/◌, ◌%◌, Bool, cond, not, ◌&&◌, ◌||◌, List, [], ◌∷◌, ℤ, pos, ◌==◌, slice_index, unsigned_abs}
+use Rattle.std.specs.Prelude.{ℕ, ◌+◌, ◌-◌, ◌*◌, ◌/◌, ◌%◌, min, Bool, cond, not, ◌&&◌, ◌||◌, List, [], ◌∷◌, ℤ, pos, ◌==◌, slice_index, unsigned_abs}
 use Rattle.years.specs.declared.date.Date.{Date}
 use Rattle.years.specs.Dates.{Shape, Years}
 
@@ -30,6 +30,18 @@ first_of_january = record { year = pos 1; month = 1; day = 1 }
 abbrev pub twin : ℤ → ℕ → ℤ → ℕ
 twin year month other = month
 
+-- a guess at the year of a day: 400 years have 146,097 days
+abbrev pub guess : ℕ → ℕ
+guess n = min n 3652059 * 400 / 146097 + 1
+
 -- years 1 to 9999
 abbrev pub gregorian_years : Years
-gregorian_years = record { shape = gregorian; start = gregorian_start; first = pos 1; past = pos 10000; origin = first_of_january; twin = twin }
+gregorian_years = record {
+  shape = gregorian;
+  start = gregorian_start;
+  first = pos 1;
+  past = pos 10000;
+  origin = first_of_january;
+  twin = twin;
+  guess = λ n. pos (guess n);
+}

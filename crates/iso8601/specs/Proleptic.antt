@@ -1,12 +1,12 @@
 -- The Gregorian years fit together, and a year is guessed from the mean year.
-use Rattle.std.specs.Prelude.{◌≡◌, ℕ, zero, suc, ◌+◌, ◌-◌, ◌*◌, ◌/◌, ◌<◌, ◌≤◌, Bool, true, false, ◌&&◌, List, [], ◌∷◌, ℤ, pos, negsuc, ◌+ℤ◌, ◌-ℤ◌, ◌≤ℤ◌, ◌<ℤ◌, nat_le, slice_index, unsigned_abs, refl}
+use Rattle.std.specs.Prelude.{◌≡◌, ℕ, zero, suc, ◌+◌, ◌-◌, ◌<◌, ◌≤◌, Bool, true, false, ◌&&◌, min, List, [], ◌∷◌, ℤ, pos, negsuc, ◌+ℤ◌, ◌-ℤ◌, ◌≤ℤ◌, ◌<ℤ◌, nat_le, slice_index, unsigned_abs, refl}
 use Rattle.std.proofs.Common.{◌∙◌, ap, not-suc-le-zero, le_of_suc-le-suc, arith}
 use Rattle.std.proofs.lemmas.Int.{ints}
 use Rattle.std.proofs.lemmas.Bool.{leb-true, and_parts, false≢true}
 use Rattle.std.proofs.lemmas.Bool.Decides.{nat_tests}
 use Rattle.years.specs.Dates.{Adds}
 use Rattle.years.specs.Days.{Fitting, InRange, Near}
-use Rattle.iso8601.specs.Gregorian.{leap, february, lengths, start_of, gregorian_start, gregorian_years}
+use Rattle.iso8601.specs.Gregorian.{leap, february, lengths, start_of, guess, gregorian_start, gregorian_years}
 use Rattle.years.proofs.Guesses.{near_by}
 
 -- a year is longer by the leap day
@@ -65,14 +65,13 @@ gregorian_fits = record {
 }
 
 -- the day lies in year y: the guess is at most one year off
-near : (y n : ℕ) → 1 ≤ y → start_of y ≤ n → n < start_of (y + 1) → (y ≤ n * 400 / 146097 + 1 + 1) × (n * 400 / 146097 + 1 ≤ y + 1)
-near y n low starts ends = (omega arith, omega arith)
+near : (y n : ℕ) → n ≤ 3652059 → 1 ≤ y → start_of y ≤ n → n < start_of (y + 1) → (y ≤ guess n + 1) × (guess n ≤ y + 1)
+near y n top low starts ends = let e : min n 3652059 ≡ n = omega arith in rw e (omega arith, omega arith)
 
-pub gregorian_near : (n : ℕ) (g : ℤ) → InRange n → g ≡ pos (n * 400 / 146097 + 1) → Near gregorian_years n g
-gregorian_near n g r e =
-    near_by gregorian_years gregorian_fits n g r (beside n g e)
+pub gregorian_near : (n : ℕ) → InRange n → Near gregorian_years n (pos (guess n))
+gregorian_near n r = near_by gregorian_years gregorian_fits n (pos (guess n)) r beside
   where
-    beside : (n : ℕ) (g : ℤ) → g ≡ pos (n * 400 / 146097 + 1) → (y : ℤ) → pos 1 ≤ℤ y → y <ℤ pos 10000 → gregorian_start y ≤ℤ pos n → pos n <ℤ gregorian_start (y +ℤ pos 1) → ((y -ℤ pos 1) ≤ℤ g) × (g ≤ℤ (y +ℤ pos 1))
-    beside n g e (pos y) low high starts ends =
-        let b = near y n (omega (arith, ints)) (omega (arith, ints)) (omega (arith, ints)) in (omega (arith, ints), omega (arith, ints))
-    beside n g e (negsuc y) low high starts ends = absurd low.le
+    beside : (y : ℤ) → pos 1 ≤ℤ y → y <ℤ pos 10000 → gregorian_start y ≤ℤ pos n → pos n <ℤ gregorian_start (y +ℤ pos 1) → ((y -ℤ pos 1) ≤ℤ pos (guess n)) × (pos (guess n) ≤ℤ (y +ℤ pos 1))
+    beside (pos y) low high starts ends =
+        let b = near y n r.high (omega (arith, ints)) (omega (arith, ints)) (omega (arith, ints)) in (omega (arith, ints), omega (arith, ints))
+    beside (negsuc y) low high starts ends = absurd low.le

@@ -4,7 +4,7 @@ use Rattle.std.proofs.Common.{arith}
 use Rattle.std.proofs.lemmas.Int.{ints}
 use Rattle.years.specs.Days.{Bounded, Twins, YearsLaws}
 use Rattle.iso8601.specs.Gregorian.{gregorian, gregorian_years, twin}
-use Rattle.iso8601.specs.Proleptic.{gregorian_fits}
+use Rattle.iso8601.specs.Proleptic.{gregorian_fits, gregorian_near}
 
 twin_inside : (year : ℤ) (month : ℕ) (other : ℤ) → 1 ≤ month → month ≤ gregorian.months year →
     (1 ≤ twin year month other) × (twin year month other ≤ gregorian.months other)
@@ -21,4 +21,4 @@ pub gregorian_bounded : Bounded gregorian_years
 gregorian_bounded = record { first = refl; last = omega (arith, ints) }
 
 pub gregorian_laws : YearsLaws gregorian_years
-gregorian_laws = record { fitting = gregorian_fits; bounded = gregorian_bounded; twins = gregorian_twins }
+gregorian_laws = record { fitting = gregorian_fits; bounded = gregorian_bounded; twins = gregorian_twins; guessed = gregorian_near }

@@ -2,7 +2,7 @@
 #![tactic(auto)]
 
 ghost use Rattle.std.specs.Prelude.{◌≡◌, ◌+◌, ◌*◌, ◌/◌, ◌≤◌};
-ghost use Rattle.iso8601.specs.Gregorian.{leap, lengths, start_of, gregorian_years};
+ghost use Rattle.iso8601.specs.Gregorian.{leap, lengths, start_of, guess as year_guess, gregorian_years};
 ghost use Rattle.iso8601.specs.Twins.{gregorian_laws};
 
 use years::days::LAST_DAY;
@@ -39,9 +39,9 @@ fn lengths_of(leap_year: bool) -> [u8; MONTHS_MOST]
     [31, february, 31, 30, 31, 30, 31, 31, 30, 31, 30, 31, 0, 0]
 }
 
-// The year of a day, or one beside it: 400 years have 146,097 days.
+// The year of a day, or one beside it: 400 years have 146,097 days. Days past the last are taken for the last.
 fn guess(day: u32) -> u32
-    ensures is { day ≤ 3652059 → result ≡ day * 400 / 146097 + 1 }
+    ensures is { result ≡ year_guess day }
     ensures fits { result ≤ 10000 }
 {
     day.min(LAST_DAY) * 400 / 146_097 + 1

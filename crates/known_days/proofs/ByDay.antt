@@ -1,15 +1,16 @@
--- Two spans by day over Test/H.
+-- Two spans by day over Test/H, in whatever calendar.
 use Rattle.std.proofs.Common.{◌≡◌, ℕ, ◌*◌, ◌/◌, ◌<◌, ◌≤◌, false, ℤ, pos, ◌+ℤ◌, Ok, Result, refl, ap, subst, ⊎_elim, arith}
 use Rattle.std.proofs.lemmas.Int.{ints}
 use Rattle.std.proofs.lemmas.Bool.{cases_lt}
 use Rattle.timebase.specs.declared.fault.Fault.{Fault}
 use Rattle.timebase.specs.Splits.{floor_quotient, floor_rest}
+use Rattle.calendar.specs.Calendars.{Calendar}
 use Rattle.local_times.specs.Locals.{Known}
 use Rattle.span_law.specs.declared.unit.Unit.TheVariants.{Day}
 use Rattle.span_law.specs.declared.way.Way.TheVariants.{Onward as onward}
 use Rattle.span_law.specs.Measuring.{result_not_past, reach, measure_answer}
-use Rattle.known_days.specs.Moves.{test_h, gregorian_calendar, at_second, span}
-use Rattle.known_days.proofs.Zones.{in_summer, in_autumn, clear_h, laws_h}
+use Rattle.known_days.specs.Moves.{at_second, span}
+use Rattle.known_days.proofs.Zones.{test_h, in_summer, in_autumn, clear_h, laws_h}
 use Rattle.known_days.proofs.Meetings.{met_first, met_late}
 use Rattle.known_days.proofs.Reaching.{At, reach_met, none_past, apart_at, measured_at}
 
@@ -45,9 +46,9 @@ own : reach test_h (at_second 2001600) onward 0 ≡ Ok (at_second 2001600)
 unfolding reach
 own = refl
 
-pub short_of_a_day : measure_answer test_h gregorian_calendar Day (at_second 2001600) (at_second 2086200) ≡ Ok (span 0 0 0 23 30)
-short_of_a_day =
-    measured_at test_h (at_second 2001600) 719186 18000 0 second_five gregorian_calendar Day (at_second 2086200) (at_second 2001600) 0 (known_h 2086200 (omega arith)) (omega (arith, ints)) refl
+pub short_of_a_day : (c : Calendar) → measure_answer test_h c Day (at_second 2001600) (at_second 2086200) ≡ Ok (span 0 0 0 23 30)
+short_of_a_day c =
+    measured_at test_h (at_second 2001600) 719186 18000 0 second_five c Day (at_second 2086200) (at_second 2001600) 0 (known_h 2086200 (omega arith)) (omega (arith, ints)) refl
     (apart_at test_h (at_second 2001600) 719186 18000 0 second_five (at_second 2086200) (at_second 2001600) 0 (omega arith) (omega (arith, ints)) own (omega (arith, ints)) not_a_day)
     own
 
@@ -67,9 +68,9 @@ day_before =
 first_twenty_past : reach test_h (at_second 1912800) onward 1 ≡ Ok (at_second 1999200)
 first_twenty_past = reach_met test_h (at_second 1912800) 719185 19200 0 day_before 1 (pos 1999200) (omega arith) (omega arith) (met_first (pos 1999200) (pos 2006400) (omega (arith, ints)) (omega (arith, ints)) refl)
 
-pub over_a_day : measure_answer test_h gregorian_calendar Day (at_second 1912800) (at_second 2001600) ≡ Ok (span 0 0 1 0 40)
-over_a_day =
-    measured_at test_h (at_second 1912800) 719185 19200 0 day_before gregorian_calendar Day (at_second 2001600) (at_second 1999200) 1 (known_h 2001600 (omega arith)) (omega (arith, ints)) refl
+pub over_a_day : (c : Calendar) → measure_answer test_h c Day (at_second 1912800) (at_second 2001600) ≡ Ok (span 0 0 1 0 40)
+over_a_day c =
+    measured_at test_h (at_second 1912800) 719185 19200 0 day_before c Day (at_second 2001600) (at_second 1999200) 1 (known_h 2001600 (omega arith)) (omega (arith, ints)) refl
     (apart_at test_h (at_second 1912800) 719185 19200 0 day_before (at_second 2001600) (at_second 1999200) 1 (omega arith) (omega (arith, ints)) first_twenty_past (omega (arith, ints))
     (none_past test_h (at_second 1912800) 719185 19200 0 day_before laws_h (at_second 2001600) 1 (omega (arith, ints))))
     first_twenty_past

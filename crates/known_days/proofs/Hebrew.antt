@@ -7,7 +7,8 @@ use Rattle.years.specs.declared.date.Date.{Date}
 use Rattle.hebrew.specs.Calendar.{year_start, new_year, hebrew_years}
 use Rattle.hebrew.specs.Twins.{hebrew_laws}
 use Rattle.zone.specs.Zones.{is_blank, offset}
-use Rattle.calendar.specs.Calendars.{CalendarLaws}
+use Rattle.calendar.specs.Calendars.{Calendar, CalendarLaws}
+use Rattle.calendar.specs.Singles.{calendar_of}
 use Rattle.calendar.specs.SingleLaws.{calendar_laws}
 use Rattle.local_times.specs.Chains.{◌>>=◌}
 use Rattle.local_times.specs.Locals.{second_of, met_at, count_of, Known}
@@ -16,11 +17,14 @@ use Rattle.span_law.specs.Stepping.{and_then, months_on, year_on, cut, month_day
 use Rattle.span_law.specs.Carrying.{met_on, natural, carried, carry_answer}
 use Rattle.span_law.proofs.Carries.{arriving_known, carried_some}
 use Rattle.known_days.specs.Days.{dated}
-use Rattle.known_days.specs.Moves.{utc, hebrew_calendar, at_day, span}
+use Rattle.known_days.specs.Moves.{at_day, span}
 use Rattle.known_days.proofs.Days.{hebrew_days}
-use Rattle.known_days.proofs.Zones.{told_utc}
+use Rattle.known_days.proofs.Zones.{utc, told_utc}
 use Rattle.known_days.proofs.Meetings.{met_utc}
 use Rattle.known_days.proofs.Reaching.{At}
+
+abbrev pub hebrew_calendar : Calendar
+hebrew_calendar = calendar_of hebrew_years
 
 pub laws : CalendarLaws hebrew_calendar
 laws = calendar_laws hebrew_years hebrew_laws

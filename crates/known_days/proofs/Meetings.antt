@@ -5,8 +5,7 @@ use Rattle.zone.specs.Zones.{is_blank, offset}
 use Rattle.local_times.specs.Meeting.{meeting}
 use Rattle.local_times.specs.Meets.{Skipped}
 use Rattle.local_times.proofs.Bridge.{is_meeting}
-use Rattle.known_days.specs.Moves.{test_h, utc}
-use Rattle.known_days.proofs.Zones.{Stretches, stretches, clear_h, told_utc}
+use Rattle.known_days.proofs.Zones.{test_h, utc, Stretches, stretches, clear_h, told_utc}
 
 -- no second shows a local time of the gap
 never : (t o : ℤ) → Stretches t o → t +ℤ o ≡ pos 1004400 → ⊥

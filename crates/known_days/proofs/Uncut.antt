@@ -18,11 +18,11 @@ use Rattle.span_law.specs.Measuring.{reach, days_apart, date_le, date_not_past, 
 use Rattle.span_law.proofs.Order.{place, le_place}
 use Rattle.span_law.proofs.Steps.{month_at, beside_moves}
 use Rattle.known_days.specs.Days.{dated}
-use Rattle.known_days.specs.Moves.{utc, hebrew_calendar, at_day, span}
-use Rattle.known_days.proofs.Zones.{laws_utc}
+use Rattle.known_days.specs.Moves.{at_day, span}
+use Rattle.known_days.proofs.Zones.{utc, laws_utc}
 use Rattle.known_days.proofs.Meetings.{met_utc}
 use Rattle.known_days.proofs.Reaching.{reach_met, none_past, apart_at, measured_at}
-use Rattle.known_days.proofs.Hebrew.{laws, from, to, known_utc, start}
+use Rattle.known_days.proofs.Hebrew.{hebrew_calendar, laws, from, to, known_utc, start}
 
 -- whether the 30th of a month is there and not past the end
 abbrev up_to_end : Option YearMonth → Bool

@@ -1,20 +1,24 @@
--- The zones of the known moves, second by second.
-use Rattle.std.proofs.Common.{◌≡◌, false, ◌⊎◌, [], ◌∷◌, ℤ, pos, negsuc, ◌≤ℤ◌, ◌<ℤ◌, sym, refl, ap, ◌∙◌, subst, inl, inr, arith}
+-- The zones of the known moves as they come out, second by second.
+use Rattle.std.proofs.Common.{◌≡◌, false, ◌⊎◌, [], codes, ℤ, pos, ◌≤ℤ◌, ◌<ℤ◌, refl, ap, ◌∙◌, inl, inr, arith}
 use Rattle.std.proofs.lemmas.Int.{ints, by_lt_z}
 use Rattle.zone.specs.declared.value.Value.TheVariants.{Offset}
-use Rattle.zone.specs.Zones.{ZoneLaws, is_blank, offset, SoundValue}
-use Rattle.zone_rule.specs.Ranges.{held}
-use Rattle.zone_rule.specs.Steps.{offset_at}
+use Rattle.zone.specs.Zones.{Zone, ZoneLaws, is_blank, offset}
+use Rattle.zone_rule.specs.NamedLaws.{named_laws}
 use Rattle.zone_rule.specs.Naming.{named_zone}
-use Rattle.known_days.specs.Moves.{step, test_h, utc}
+use Rattle.zone_rule.specs.Ranges.{held}
+use Rattle.zone_rule.specs.StepLaws.{offsets_sound}
+use Rattle.board_sources.specs.Sources.{utc as rule_utc, test_changes, test_h as rule_h}
 
 -- ── Test/H ──
 
+unfoldable pub test_h : Zone
+test_h s = rule_h (held s)
+
 abbrev offset_h : ℤ → ℤ
-offset_h s = offset_at (pos 3600) (step 1000000 (pos 7200) ∷ (step 2000000 (pos 3600) ∷ [])) (held s)
+offset_h s = offset (rule_h (held s))
 
 told_h : (s : ℤ) → test_h s ≡ Offset (offset_h s)
-unfolding test_h named_zone
+unfolding test_h
 told_h s = refl
 
 early_h : (s : ℤ) → s <ℤ pos 1000000 → offset_h s ≡ pos 3600
@@ -52,37 +56,19 @@ in_autumn s h = ap offset (told_h s) ∙ late_h s h
 pub clear_h : (s : ℤ) → is_blank (test_h s) ≡ false
 clear_h s = ap is_blank (told_h s)
 
-sound_h : (s : ℤ) → SoundValue (test_h s)
-sound_h s = subst SoundValue (sym (told_h s)) (by (offset_h s) (subst (Stretches s) (ap offset (told_h s)) (stretches s)))
-  where
-    by : (o : ℤ) → Stretches s o → SoundValue (Offset o)
-    by o (inl k) = (omega (arith, ints), omega (arith, ints))
-    by o (inr (inl k)) = (omega (arith, ints), omega (arith, ints))
-    by o (inr (inr k)) = (omega (arith, ints), omega (arith, ints))
-
-lowest_h : (s : ℤ) → s ≤ℤ negsuc 62135683199 → held s ≡ negsuc 62135683199
-lowest_h s h = grind (arith, ints)
-
-highest_h : (s : ℤ) → pos 253402387199 ≤ℤ s → held s ≡ pos 253402387199
-highest_h s h = grind (arith, ints)
-
 pub laws_h : ZoneLaws test_h
 unfolding test_h named_zone
-laws_h = record {
-  sound = sound_h;
-  before = λ s h. ap (λ (x : ℤ). Offset (offset_at (pos 3600) (step 1000000 (pos 7200) ∷ (step 2000000 (pos 3600) ∷ [])) x)) (lowest_h s h);
-  after = λ s h. ap (λ (x : ℤ). Offset (offset_at (pos 3600) (step 1000000 (pos 7200) ∷ (step 2000000 (pos 3600) ∷ [])) x)) (highest_h s h);
-}
+laws_h = (named_laws (codes "Test/H") rule_h (λ s. offsets_sound test_changes (pos 3600) s refl refl)).each 0 (omega arith)
 
 -- ── UTC ──
 
+unfoldable pub utc : Zone
+utc s = rule_utc (held s)
+
 pub told_utc : (s : ℤ) → utc s ≡ Offset (pos 0)
-unfolding utc named_zone
+unfolding utc
 told_utc s = refl
 
 pub laws_utc : ZoneLaws utc
-laws_utc = record {
-  sound = λ s. subst SoundValue (sym (told_utc s)) (omega (arith, ints), omega (arith, ints));
-  before = λ s h. told_utc s ∙ sym (told_utc (negsuc 62135683199));
-  after = λ s h. told_utc s ∙ sym (told_utc (pos 253402387199));
-}
+unfolding utc named_zone
+laws_utc = (named_laws (codes "UTC") rule_utc (λ s. offsets_sound [] (pos 0) s refl refl)).each 0 (omega arith)

@@ -60,6 +60,7 @@ pub enum Line {
 pub fn read_line(line: &[u8]) -> Result<Line, Misread>
     ensures value { result ≡ read_line line.now }
     ensures grammar { AnswersWithin IsLine 160 line.now result }
+    ensures one { (f g : Line) → IsLine line.now f → IsLine line.now g → f ≡ g }
 {
     read_within(Progress::Start, line, LINE_LIMIT)
 }

@@ -1,11 +1,12 @@
 -- The walk through the window.
-use Rattle.std.proofs.Common.{◌≡◌, ℕ, zero, suc, Bool, true, false, ◌⊎◌, ℤ, pos, ◌+ℤ◌, ◌-ℤ◌, nat_abs, ◌≤ℤ◌, ◌<ℤ◌, Ok, Err, Result, sym, refl, ap, ◌∙◌, subst, inl, inr, arith}
+use Rattle.std.proofs.Common.{◌≡◌, ℕ, Bool, true, false, ◌⊎◌, ℤ, pos, ◌+ℤ◌, ◌-ℤ◌, ◌≤ℤ◌, ◌<ℤ◌, Ok, Err, Result, sym, refl, ap, ◌∙◌, subst, inl, inr, arith}
 use lib.Signed.{lt_z}
 use Rattle.std.proofs.lemmas.Int.{ints, by_lt_z}
 use Rattle.zone.specs.declared.value.Value.{Value}
 use Rattle.zone.specs.declared.value.Value.TheVariants.{Offset, Blank}
 use Rattle.timebase.specs.declared.fault.Fault.{Fault}
 use Rattle.zone.specs.Zones.{Zone, Steady, SoundValue, is_blank, offset}
+use Rattle.zone.proofs.Stretches.{stretch}
 use Rattle.local_times.specs.Meeting.{offset_known, local_at}
 use Rattle.local_times.specs.Walk.{OffsetFits}
 use Rattle.local_times.specs.Walk.{holds_in, land_of}
@@ -24,15 +25,6 @@ fits_at v o b e = rw e at b
 fits_of : (v : Value) → SoundValue v → OffsetFits (offset v)
 fits_of (Offset o) b = b
 fits_of (Blank c d) b = omega (arith, ints)
-
--- a stretch has one value
-module _ (f : Zone) (a n : ℤ) (st : Steady f a n) where
-  stretch_by : (k : ℕ) (t : ℤ) → t ≡ a +ℤ pos k → t <ℤ n → f t ≡ f a
-  stretch_by zero t e h = ap f (omega (arith, ints))
-  stretch_by (suc k) t e h = st t (omega (arith, ints)) h ∙ stretch_by k (t -ℤ pos 1) (omega (arith, ints)) (omega (arith, ints))
-
-  pub stretch : (t : ℤ) → a ≤ℤ t → t <ℤ n → f t ≡ f a
-  stretch t h k = stretch_by (nat_abs (t -ℤ a)) t (omega (arith, ints)) k
 
 module _ (f : Zone) (l a n o p : ℤ) (lt : a <ℤ n) (st : Steady f a n) (at : f a ≡ Offset o) (start : low l ≤ℤ a) where
   there : (t : ℤ) → a ≤ℤ t → t <ℤ n → local_at f t ≡ t +ℤ o

@@ -6,11 +6,7 @@ use Rattle.timebase.specs.Searches.{first_from}
 use Rattle.zone.specs.declared.value.Value.{Value}
 use Rattle.zone.specs.declared.value.Value.TheVariants.{Offset, Blank}
 use Rattle.zone.specs.Zones.{Zone, is_blank, offset}
-
--- the offset, or the refusal that tells the blank's cause and depth
-abbrev pub offset_known : Value → Result ℤ Fault
-offset_known (Offset o) = Ok o
-offset_known (Blank cause depth) = Err (NoOffset cause depth)
+pub use Rattle.zone.specs.Zones.{offset_known}
 
 abbrev pub fault_of : Value → Fault
 fault_of (Offset o) = NoOffset 0 0

@@ -1,12 +1,10 @@
 // What a zone says of its seconds, as the layers above ask it.
 ghost use Rattle.std.specs.Prelude.{◌≡◌, ◌<◌, ◌≤◌, ◌<ℤ◌, ◌≤ℤ◌, MatchOption};
-ghost use Rattle.zone.specs.Zones.{Steady};
-ghost use Rattle.local_times.specs.Meeting.{offset_known};
+ghost use Rattle.zone.specs.Zones.{Steady, offset_known};
 
 use crate::zone_at::ZoneAt;
 use timebase::fault::Fault;
 use zone::source::ZoneSource;
-use zone::value::Value;
 
 impl<'z, Z: ZoneSource> ZoneAt<'z, Z> {
     // The zone of that number; none where the source has no such zone.
@@ -24,11 +22,8 @@ impl<'z, Z: ZoneSource> ZoneAt<'z, Z> {
     pub(crate) fn offset(&self, second: i64) -> Result<i64, Fault>
         ensures { result ≡ offset_known ((Z.ZoneSource.zones self.now.source.now).value self.now.number second) }
     {
-        match self.source.value(self.number, second) {
-            Some(Value::Offset(offset)) => Ok(i64::from(offset)),
-            Some(Value::Blank { cause, depth }) => Err(Fault::Blank { cause, depth }),
-            None => unreachable(),
-        }
+        let value = self.source.value(self.number, second).unwrap();
+        Ok(i64::from(value.known_offset()?))
     }
 
     // The end of the stretch of one value that starts at `at`, at most `end`.

@@ -1,5 +1,5 @@
 -- The steps take every mark text.
-use Rattle.std.proofs.Common.{◌≡◌, ℕ, suc, ◌+◌, ◌-◌, ◌<◌, ◌≤◌, Bool, true, false, ◌||◌, eqb, ltb, leb, List, [], ◌∷◌, ◌++◌, length, get_or, drop, Some, Ok, codes, Option, sym, refl, ap, ◌∙◌, inl, inr, append_assoc, arith, length-append, length-drop}
+use Rattle.std.proofs.Common.{◌≡◌, ℕ, suc, ◌+◌, ◌-◌, ◌<◌, ◌≤◌, Bool, true, false, ◌||◌, eqb, ltb, leb, List, [], ◌∷◌, ◌++◌, length, get_or, drop, Some, Ok, codes, Option, sym, refl, ap, ◌∙◌, subst, inl, inr, append_assoc, arith, length-append, length-drop}
 use Rattle.std.proofs.lemmas.Bool.{cases_Bool, both_ways, or_cases, or_right, eqb-true, lt-ltb, lt-leb}
 use Rattle.std.proofs.lemmas.List.{drop_more}
 use Rattle.reading.specs.Digits.{is_digit, AllDigits}
@@ -10,6 +10,9 @@ use Rattle.names.specs.ZoneNames.{AllInZoneName}
 use Rattle.names.specs.ZoneScanning.{is_first_of_zone_name, is_in_zone_name}
 use Rattle.names.proofs.NameAnswers.{is_between, one_is}
 use Rattle.names.proofs.ZoneAnswers.{is_first_of, is_inside}
+use Rattle.std.specs.Str.{bytes_eq}
+use Rattle.mark_form.specs.declared.draft.Draft.{Draft}
+use Rattle.mark_form.specs.declared.draft.Said.{Said}
 use Rattle.mark_form.specs.declared.layout.Layout.{Layout}
 use Rattle.mark_form.specs.declared.layout.Part.{Part}
 use Rattle.mark_form.specs.declared.layout.Tag.{Tag}
@@ -19,9 +22,13 @@ use Rattle.mark_form.specs.declared.stage.Form.TheVariants.{Clock, Offset, Secon
 use Rattle.mark_form.specs.declared.stage.Progress.{Progress}
 use Rattle.mark_form.specs.declared.stage.Stage.TheVariants.{Fixed, Fraction, Utc, Zone, Name, Between, Open, Key, Equals, Joined, Run}
 use Rattle.mark_form.specs.Bytes.{is_first_of_key, is_in_key, stands, matched}
-use Rattle.mark_form.specs.Grammar.{Fits, FractionText, OffsetText, Bang, ZoneText, AllInKey, KeyText, TagsText, tagged, MarkText}
+use Rattle.mark_form.specs.Grammar.{FractionText, OffsetText, ZoneText, DraftText, layout_of, MarkText}
+use Rattle.mark_form.specs.TagLaws.{Bang, AllInKey, KeyText, TagAt, TagList}
+use Rattle.mark_form.specs.Tags.{no_tags}
+use Rattle.mark_form.proofs.Forms.{Fits, fits_length, alone, pair_fits, clock_fits, sign_is}
+use Rattle.mark_form.proofs.Tagging.{noted_all, noted_is}
 use Rattle.mark_form.specs.Scanning.{form_text, progress, with_sign, with_name, with_tag, keyed, signed, stepped, ended, begun}
-use Rattle.mark_form.proofs.Sound.{read, matched_on, key_is, fits_length}
+use Rattle.mark_form.proofs.Sound.{read, matched_on, key_is}
 
 -- one byte
 go : (s t : Progress) (a b : ℕ) (bs : List ℕ) → stepped s a b ≡ Some t → read s a (b ∷ bs) ≡ read t (a + 1) bs
@@ -110,6 +117,10 @@ key_goes (b ∷ bs) xs o c k l a from h e =
     let n = not_byte is_in_key b 61 refl h.0 in
     go (progress (Key o c k) l) (progress (Key o c (matched k b)) l) a b (bs ++ (61 ∷ xs)) (rw (n, h.0) refl) ∙ key_goes bs xs o c (matched k b) l (a + 1) from h.1 (omega arith)
 
+-- a tag by its `[`, whether it is critical, and its key, as the steps see it
+abbrev tagged : ℕ → Bool → List ℕ → Tag
+tagged bracket c key = record { bracket = bracket; critical = c; is_calendar = bytes_eq key (codes "u-ca") }
+
 -- a whole key
 word_goes : (x xs : List ℕ) (o : ℕ) (c : Bool) (l : Layout) (a from : ℕ) → KeyText x → from ≡ a + (length x + 1) → read (progress (Open o c) l) a (x ++ (61 ∷ xs)) ≡ read (progress (Equals (tagged o c x)) l) from xs
 word_goes [] xs o c l a from h e = absurd h
@@ -128,10 +139,10 @@ abbrev laid : ℕ → Part → Tags → Layout
 laid s n g = record { sign = s; name = n; tags = g }
 
 -- all the tags, up to the end of the text
-tags_goes : {a : ℕ} {g h : Tags} {xs : List ℕ} (s : ℕ) (n : Part) → TagsText a g xs h → read (progress Between (laid s n g)) a xs ≡ Ok (laid s n h)
-tags_goes s n TagsText.none = refl
-tags_goes s n (TagsText.tag {at} {from} {to} {g} {h} {c} {e} k {v} {xs} b w r p q more) =
-    open_goes k (v ++ (93 ∷ xs)) (laid s n g) at from b w p ∙ (value_goes (tagged at c k) (laid s n g) from to xs r q ∙ tags_goes s n more)
+tags_goes : {a : ℕ} {xs : List ℕ} {ts : List TagAt} (s : ℕ) (n : Part) (g : Tags) → TagList a xs ts → read (progress Between (laid s n g)) a xs ≡ Ok (laid s n (noted_all g ts))
+tags_goes s n g TagList.none = refl
+tags_goes s n g (TagList.tag {at} {from} {to} {c} {e} k {v} {xs} {ts} b w r p q more) =
+    open_goes k (v ++ (93 ∷ xs)) (laid s n g) at from b w p ∙ (value_goes (tagged at c k) (laid s n g) from to xs r q ∙ tags_goes s n _ more)
 
 -- a form
 form_goes : (ks x xs : List ℕ) (f : Form) (k : ℕ) (l : Layout) (a : ℕ) → drop k (form_text f) ≡ ks → k ≤ length (form_text f) → Fits ks x → read (progress (Fixed f k) l) a (x ++ xs) ≡ read (progress (Fixed f (length (form_text f))) l) (a + length x) xs
@@ -168,20 +179,33 @@ sign_byte s l a c xs m h =
     let n = not_byte (λ z. eqb z 43 || eqb z 45) c 90 refl h in
     go s (progress (Fixed Offset 0) (with_sign l a)) a c xs (m c (or_right (eqb c 90) _ h) ∙ rw (n, h) refl)
 
--- the offset, up to the zone's `[`
-offset_goes : {x : List ℕ} (s : Progress) (xs : List ℕ) (l : Layout) (a at : ℕ) → MaySign s l a → OffsetText x → at ≡ a + (length x + 1) → read s a (x ++ (91 ∷ xs)) ≡ read (progress (Zone false) (with_sign l a)) at xs
-offset_goes s xs l a at m OffsetText.utc e =
-    let n : (a + 1) + 1 ≡ at = omega arith in
-    go s (progress Utc (with_sign l a)) a 90 (91 ∷ xs) (m 90 refl) ∙ ap (λ z. read (progress (Zone false) (with_sign l a)) z xs) n
-offset_goes s xs l a at m (OffsetText.minutes {c} x g h) e =
+-- a sign, hours and minutes, up to the zone's `[`
+minutes_go : (s : Progress) (c : ℕ) (x xs : List ℕ) (l : Layout) (a at : ℕ) → MaySign s l a → (eqb c 43 || eqb c 45) ≡ true → Fits (codes "00:00") x → at ≡ a + (length (c ∷ x) + 1)
+    → read s a (c ∷ (x ++ (91 ∷ xs))) ≡ read (progress (Zone false) (with_sign l a)) at xs
+minutes_go s c x xs l a at m g h e =
     let n : ((a + 1) + length x) + 1 ≡ at = omega arith in
     sign_byte s l a c (x ++ (91 ∷ xs)) m g ∙ (form_goes (codes "00:00") x (91 ∷ xs) Offset 0 (with_sign l a) (a + 1) refl (omega arith) h ∙ ap (λ z. read (progress (Zone false) (with_sign l a)) z xs) n)
-offset_goes s xs l a at m (OffsetText.seconds {c} x y g h i) e =
+
+-- and with seconds
+seconds_go : (s : Progress) (c : ℕ) (x y xs : List ℕ) (l : Layout) (a at : ℕ) → MaySign s l a → (eqb c 43 || eqb c 45) ≡ true → Fits (codes "00:00") x → Fits (codes "00") y
+    → at ≡ a + (length (c ∷ (x ++ (58 ∷ y))) + 1) → read s a (c ∷ ((x ++ (58 ∷ y)) ++ (91 ∷ xs))) ≡ read (progress (Zone false) (with_sign l a)) at xs
+seconds_go s c x y xs l a at m g h i e =
     let k : length (x ++ (58 ∷ y)) ≡ length x + (length y + 1) = simp length-append (omega arith) in
     let n : ((((a + 1) + length x) + 1) + length y) + 1 ≡ at = omega arith in
     let t : c ∷ ((x ++ (58 ∷ y)) ++ (91 ∷ xs)) ≡ c ∷ (x ++ (58 ∷ (y ++ (91 ∷ xs)))) = ap (λ z. c ∷ z) (append_assoc x (58 ∷ y) (91 ∷ xs)) in
     ap (read s a) t ∙ (sign_byte s l a c (x ++ (58 ∷ (y ++ (91 ∷ xs)))) m g ∙ (form_goes (codes "00:00") x (58 ∷ (y ++ (91 ∷ xs))) Offset 0 (with_sign l a) (a + 1) refl (omega arith) h
     ∙ (form_goes (codes "00") y (91 ∷ xs) Seconds 0 (with_sign l a) (((a + 1) + length x) + 1) refl (omega arith) i ∙ ap (λ z. read (progress (Zone false) (with_sign l a)) z xs) n)))
+
+-- the offset, up to the zone's `[`
+offset_goes : {x : List ℕ} {o : Option Said} (s : Progress) (xs : List ℕ) (l : Layout) (a at : ℕ) → MaySign s l a → OffsetText a x o → at ≡ a + (length x + 1) → read s a (x ++ (91 ∷ xs)) ≡ read (progress (Zone false) (with_sign l a)) at xs
+offset_goes s xs l a at m OffsetText.utc e =
+    let n : (a + 1) + 1 ≡ at = omega arith in
+    go s (progress Utc (with_sign l a)) a 90 (91 ∷ xs) (m 90 refl) ∙ ap (λ z. read (progress (Zone false) (with_sign l a)) z xs) n
+offset_goes s xs l a at m OffsetText.unknown e = minutes_go s 45 (codes "00:00") xs l a at m refl (refl, (refl, (refl, (refl, (refl, tt))))) e
+offset_goes s xs l a at m (OffsetText.minutes {c} {hh} {mm} g h i n) e = minutes_go s c (hh ++ (58 ∷ mm)) xs l a at m (sign_is g) (pair_fits h i) e
+offset_goes s xs l a at m (OffsetText.seconds {c} {hh} {mm} {ss} g h i j) e =
+    let t : c ∷ ((hh ++ (58 ∷ mm)) ++ (58 ∷ ss)) ≡ c ∷ (hh ++ (58 ∷ (mm ++ (58 ∷ ss)))) = ap (λ z. c ∷ z) (append_assoc hh (58 ∷ mm) (58 ∷ ss)) in
+    ap (λ (z : List ℕ). read s a (z ++ (91 ∷ xs))) (sym t) ∙ seconds_go s c (hh ++ (58 ∷ mm)) ss xs l a at m (sign_is g) (pair_fits h i) (alone j) (e ∙ ap (λ (z : List ℕ). a + (length z + 1)) (sym t))
 
 -- the digits of a fraction
 digits_go : (ds xs : List ℕ) (k : ℕ) (l : Layout) (a : ℕ) → AllDigits ds → k + length ds ≤ 6 → read (progress (Fraction k) l) a (ds ++ xs) ≡ read (progress (Fraction (k + length ds)) l) (a + length ds) xs
@@ -213,26 +237,31 @@ fraction_may : (k : ℕ) (l : Layout) (a : ℕ) → 0 < k → MaySign (progress 
 fraction_may k l a g b h = let n = digit_not b h in let t : ltb 0 k ≡ true = lt-ltb 0 k g in rw (n, t) refl
 
 -- from the fraction up to the zone
-fraction_goes : {f x : List ℕ} (xs : List ℕ) (l : Layout) (a sign at : ℕ) → FractionText f → OffsetText x → sign ≡ a + length f → at ≡ sign + (length x + 1)
+fraction_goes : {f x : List ℕ} {u : ℕ} {w : Option Said} (xs : List ℕ) (l : Layout) (a sign at : ℕ) → FractionText f u → OffsetText sign x w → sign ≡ a + length f → at ≡ sign + (length x + 1)
     → read (progress (Fixed Clock 19) l) a (f ++ (x ++ (91 ∷ xs))) ≡ read (progress (Zone false) (with_sign l sign)) at xs
-fraction_goes xs l a sign at FractionText.none o p q =
+fraction_goes {x} {w} xs l a sign at FractionText.none o p q =
     let n : a ≡ sign = omega arith in
-    offset_goes (progress (Fixed Clock 19) l) xs l a at (clock_may l a) o (omega arith) ∙ ap (λ z. read (progress (Zone false) (with_sign l z)) at xs) n
+    offset_goes (progress (Fixed Clock 19) l) xs l a at (clock_may l a) (subst (λ z. OffsetText z x w) (sym n) o) (omega arith) ∙ ap (λ z. read (progress (Zone false) (with_sign l z)) at xs) n
 fraction_goes {f} {x} xs l a sign at (FractionText.some {ds} h) o p q =
     let n : (a + 1) + length ds ≡ sign = omega arith in
     digits_go ds (x ++ (91 ∷ xs)) 0 l (a + 1) h.all (omega (arith, h.few))
     ∙ (ap (λ i. read (progress (Fraction (0 + length ds)) l) i (x ++ (91 ∷ xs))) n ∙ offset_goes (progress (Fraction (0 + length ds)) l) xs l sign at (fraction_may (0 + length ds) l sign (omega (arith, h.some))) o q)
 
 -- a mark text is read to its end, and its parts stand where they are read
-pub complete : (t : List ℕ) (v : Layout) → MarkText t v → read begun 0 t ≡ Ok v
-complete t v m =
-    let n = fits_length (form_text Clock) m.clock m.clock_text in
+draft_goes : (t : List ℕ) (d : Draft) (m : DraftText t d) → read begun 0 t ≡ Ok (layout_of m)
+draft_goes t d m =
+    let fits = clock_fits m.clock d m.clock_text in
+    let n = fits_length (form_text Clock) m.clock fits in
     let l = begun.seen in
+    let sign = 19 + length m.fraction in
     let nineteen : 0 + length m.clock ≡ 19 = omega arith in
     let zoned = m.bang ++ (m.name ++ (93 ∷ m.tags)) in
     ap (read begun 0) m.is
-    ∙ (form_goes (form_text Clock) m.clock (m.fraction ++ (m.offset ++ (91 ∷ zoned))) Clock 0 l 0 refl (omega arith) m.clock_text
+    ∙ (form_goes (form_text Clock) m.clock (m.fraction ++ (m.offset ++ (91 ∷ zoned))) Clock 0 l 0 refl (omega arith) fits
     ∙ (ap (λ i. read (progress (Fixed Clock 19) l) i (m.fraction ++ (m.offset ++ (91 ∷ zoned)))) nineteen
-    ∙ (fraction_goes zoned l 19 v.sign (v.sign + (length m.offset + 1)) m.fraction_text m.offset_text m.sign_place refl
-    ∙ (zone_goes m.name m.tags (with_sign l v.sign) (v.sign + (length m.offset + 1)) v.name.from v.name.to m.bang_text m.name_text (m.name_from ∙ omega arith) m.name_to
-    ∙ tags_goes v.sign v.name m.tags_text))))
+    ∙ (fraction_goes zoned l 19 sign (sign + (length m.offset + 1)) m.fraction_text m.offset_text refl refl
+    ∙ (zone_goes m.name m.tags (with_sign l sign) (sign + (length m.offset + 1)) d.name.from d.name.to m.bang_text m.name_text (m.name_from ∙ omega arith) m.name_to
+    ∙ (tags_goes sign d.name no_tags m.tags_text ∙ ap (λ g. Ok (laid sign d.name g)) (noted_is m.each ∙ sym m.tags_told))))))
+
+pub complete : (t : List ℕ) (v : Layout) → MarkText t v → read begun 0 t ≡ Ok v
+complete t v m = draft_goes t m.draft m.text ∙ ap Ok (sym m.places)

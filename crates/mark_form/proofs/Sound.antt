@@ -13,6 +13,8 @@ use Rattle.names.specs.ZoneNames.{AllInZoneName}
 use Rattle.names.specs.ZoneScanning.{is_first_of_zone_name, is_in_zone_name}
 use Rattle.names.proofs.NameAnswers.{between, is_one}
 use Rattle.names.proofs.ZoneAnswers.{first_of, inside}
+use Rattle.span_text.specs.Grammar.{micros_of}
+use Rattle.mark_form.specs.declared.draft.Said.{Said}
 use Rattle.mark_form.specs.declared.layout.Layout.{Layout}
 use Rattle.mark_form.specs.declared.layout.Part.{Part}
 use Rattle.mark_form.specs.declared.layout.Tag.{Tag}
@@ -21,9 +23,12 @@ use Rattle.mark_form.specs.declared.stage.Form.TheVariants.{Clock, Offset, Secon
 use Rattle.mark_form.specs.declared.stage.Progress.{Progress}
 use Rattle.mark_form.specs.declared.stage.Stage.TheVariants.{Fixed, Fraction, Utc, Zone, Name, Between, Open, Key, Equals, Joined, Run}
 use Rattle.mark_form.specs.Bytes.{is_first_of_key, is_in_key, stands, matched, is_matched}
-use Rattle.mark_form.specs.Grammar.{Fits, FractionText, OffsetText, Bang, ZoneText, AllInKey, KeyText, TagsText, tagged, MarkText}
+use Rattle.mark_form.specs.Grammar.{FractionText, OffsetText, ZoneText, MarkText}
+use Rattle.mark_form.specs.TagLaws.{Bang, AllInKey, KeyText, TagAt, TagList}
 use Rattle.mark_form.specs.Scanning.{form_text, progress, with_sign, with_name, with_tag, keyed, signed, opened, after_form, stepped, ended, begun}
-use Rattle.mark_form.specs.Tags.{no_tags, noted}
+use Rattle.mark_form.specs.Tags.{noted}
+use Rattle.mark_form.proofs.Forms.{Fits, fits_length, clock_of, clocked, clocked_text, minutes_of, seconds_of}
+use Rattle.mark_form.proofs.Tagging.{noted_all, noted_is}
 
 -- what is read from a state on
 abbrev pub read : Progress → ℕ → List ℕ → Result Layout Misread
@@ -82,7 +87,9 @@ key_is (b ∷ bs) = key_byte (eqb b 117) 1 bs (45 ∷ (99 ∷ (97 ∷ []))) (key
 
 -- what follows where a tag may begin
 pub record TagsRest (l : Layout) (a : ℕ) (xs : List ℕ) (v : Layout) : Type 0 where
-  pub tags : TagsText a l.tags xs v.tags
+  pub each : List TagAt
+  pub tags : TagList a xs each
+  pub come : v.tags ≡ noted_all l.tags each
   pub sign : v.sign ≡ l.sign
   pub name : v.name ≡ l.name
 
@@ -138,10 +145,11 @@ key_more k b f r = record {
 one_tag : {l : Layout} {o a : ℕ} {c : Bool} {e xs : List ℕ} {v : Layout} → Bang e c → a ≡ o + (length e + 1) → KeyRest KeyText l o c (Some 0) a xs v → TagsRest l o (91 ∷ (e ++ xs)) v
 one_tag {l} {o} {a} {c} {e} {xs} {v} g n r =
     let p : Part = record { from = r.from; to = r.to } in
-    let more : TagsText (r.to + 1) (noted l.tags (tagged o c r.key) p) r.rest v.tags =
-    subst (λ (z : Bool). TagsText (r.to + 1) (noted l.tags (record { bracket = o; critical = c; is_calendar = z }) p) r.rest v.tags) (key_is r.key) r.after.tags in
+    let each : List TagAt = record { bracket = o; critical = c; key = r.key; value = p } ∷ r.after.each in
     record {
-      tags = subst (λ z. TagsText o l.tags (91 ∷ (e ++ z)) v.tags) (sym r.is) (TagsText.tag r.key g r.word r.good (omega (arith, r.from_is)) r.to_is more);
+      each = each;
+      tags = subst (λ z. TagList o (91 ∷ (e ++ z)) each) (sym r.is) (TagList.tag r.key g r.word r.good (omega (arith, r.from_is)) r.to_is r.after.tags);
+      come = r.after.come ∙ ap (λ (z : Bool). noted_all (noted l.tags (record { bracket = o; critical = c; is_calendar = z }) p) r.after.each) (key_is r.key);
       sign = r.after.sign;
       name = r.after.name;
     }
@@ -149,7 +157,7 @@ one_tag {l} {o} {a} {c} {e} {xs} {v} g n r =
 mutual
   -- where a tag may begin
   tags_sound : (xs : List ℕ) (l : Layout) (a : ℕ) (v : Layout) → read (progress Between l) a xs ≡ Ok v → TagsRest l a xs v
-  tags_sound [] l a v h = let e : l ≡ v = cc in subst (λ z. TagsRest l a [] z) e (record { tags = TagsText.none; sign = refl; name = refl })
+  tags_sound [] l a v h = let e : l ≡ v = cc in subst (λ z. TagsRest l a [] z) e (record { each = []; tags = TagList.none; come = refl; sign = refl; name = refl })
   tags_sound (b ∷ bs) l a v h = elim (way_taken a bs v (eqb b 91) (Some (progress (Open a false) l)) None h) [
     | inl w ↦ subst (λ z. TagsRest l a (z ∷ bs) v) (sym (eqb-true b 91 w.0)) (open_sound bs l a (a + 1) v refl w.1)
     | inr w ↦ err_ok v a w.1
@@ -374,7 +382,8 @@ pub record OffsetRest (l : Layout) (a : ℕ) (xs : List ℕ) (v : Layout) : Type
   pub offset : List ℕ
   pub rest : List ℕ
   pub is : xs ≡ offset ++ (91 ∷ rest)
-  pub text : OffsetText offset
+  pub said : Option Said
+  pub text : OffsetText a offset said
   pub at : ℕ
   pub at_is : at ≡ a + (length offset + 1)
   pub zoned : ZoneRest (with_sign l a) at rest v
@@ -384,7 +393,7 @@ utc_sound : (xs : List ℕ) (l : Layout) (a : ℕ) (v : Layout) → read (progre
 utc_sound [] l a v h = err_ok v (a + 1) h
 utc_sound (b ∷ bs) l a v h =
     let z = opened_sound b bs (with_sign l a) (a + 1) v h in
-    record { offset = 90 ∷ []; rest = bs; is = ap (λ c. 90 ∷ (c ∷ bs)) z.0; text = OffsetText.utc; at = (a + 1) + 1; at_is = omega arith; zoned = z.1 }
+    record { offset = 90 ∷ []; rest = bs; is = ap (λ c. 90 ∷ (c ∷ bs)) z.0; said = None; text = OffsetText.utc; at = (a + 1) + 1; at_is = omega arith; zoned = z.1 }
 
 -- the pieces of an offset with seconds, put together
 with_seconds : (x xs y ys rest : List ℕ) (b c : ℕ) → xs ≡ x ++ (b ∷ ys) → b ≡ 58 → ys ≡ y ++ (c ∷ rest) → c ≡ 91 → xs ≡ (x ++ (58 ∷ y)) ++ (91 ∷ rest)
@@ -399,22 +408,26 @@ offset_sound c xs l a v g h =
       | inl w ↦
           let s = form_sound 2 Seconds 0 (with_sign l a) (r.at + 1) r.rest v (omega arith) w.1 in
           let z = opened_sound s.next s.rest (with_sign l a) s.at v s.after in
+          let o = seconds_of a c r.text s.text g r.fits s.fits in
           record {
             offset = c ∷ (r.text ++ (58 ∷ s.text));
             rest = s.rest;
             is = ap (λ z. c ∷ z) (with_seconds r.text xs s.text r.rest s.rest r.next s.next r.is (eqb-true r.next 58 w.0) s.is z.0);
-            text = OffsetText.seconds r.text s.text g r.fits s.fits;
+            said = o.0;
+            text = o.1;
             at = s.at + 1;
             at_is = let n : length (r.text ++ (58 ∷ s.text)) ≡ length r.text + (length s.text + 1) = simp length-append (omega arith) in omega (arith, n, r.at_is, s.at_is);
             zoned = z.1;
           }
       | inr w ↦
           let z = opened_sound r.next r.rest (with_sign l a) r.at v w.1 in
+          let o = minutes_of a c r.text g r.fits in
           record {
             offset = c ∷ r.text;
             rest = r.rest;
             is = ap (λ z. c ∷ z) (r.is ∙ ap (λ z. r.text ++ (z ∷ r.rest)) z.0);
-            text = OffsetText.minutes r.text g r.fits;
+            said = o.0;
+            text = o.1;
             at = r.at + 1;
             at_is = omega (arith, r.at_is);
             zoned = z.1;
@@ -480,38 +493,38 @@ fraction_sound (b ∷ bs) k l a v g h = elim (way_taken a bs v (is_digit b) _ _ 
   ]
 ]
 
--- a text in a form is as long as the form
-pub fits_length : (ks xs : List ℕ) → Fits ks xs → length xs ≡ length ks
-fits_length [] [] h = refl
-fits_length [] (x ∷ xs) h = absurd h
-fits_length (k ∷ ks) [] h = absurd h
-fits_length (k ∷ ks) (x ∷ xs) h = ap suc (fits_length ks xs h.1)
-
 -- all the pieces of a text, put together
-from_offset : (t clock fraction xs : List ℕ) (at : ℕ) (v : Layout) → t ≡ clock ++ (fraction ++ xs) → Fits (codes "0000-00-00T00:00:00") clock → FractionText fraction → at ≡ 19 + length fraction
+from_offset : (t clock fraction xs : List ℕ) (micros at : ℕ) (v : Layout) → t ≡ clock ++ (fraction ++ xs) → Fits (codes "0000-00-00T00:00:00") clock → FractionText fraction micros → at ≡ 19 + length fraction
     → OffsetRest begun.seen at xs v → MarkText t v
-from_offset t clock fraction xs at v e c f n o =
+from_offset t clock fraction xs micros at v e c f n o =
     let z = o.zoned in
     let m = z.named in
     let there : v.name ≡ record { from = z.from; to = m.to } = m.after.name in
+    let sign : v.sign ≡ 19 + length fraction = m.after.sign ∙ n in
+    let k = clock_of clock c in
     record {
-      clock = clock;
-      fraction = fraction;
-      offset = o.offset;
-      bang = z.bang;
-      critical = z.critical;
-      name = m.name;
-      tags = m.rest;
-      is = e ∙ (ap (λ (y : List ℕ). clock ++ (fraction ++ y)) (o.is ∙ (ap (λ (y : List ℕ). o.offset ++ (91 ∷ y)) (z.is ∙ ap (λ (y : List ℕ). z.bang ++ y) m.is))));
-      clock_text = c;
-      fraction_text = f;
-      offset_text = o.text;
-      bang_text = z.banged;
-      name_text = m.word;
-      tags_text = subst (λ (p : Part). TagsText (p.to + 1) no_tags m.rest v.tags) (sym there) m.after.tags;
-      sign_place = m.after.sign ∙ n;
-      name_from = ap (λ (p : Part). p.from) there ∙ omega (arith, z.from_is, o.at_is, m.after.sign);
-      name_to = let p : v.name.to ≡ m.to = ap (λ (p : Part). p.to) there in let q : v.name.from ≡ z.from = ap (λ (p : Part). p.from) there in omega (arith, p, q, m.to_is);
+      draft = clocked k micros o.said v.name v.tags;
+      text = record {
+        clock = clock;
+        fraction = fraction;
+        offset = o.offset;
+        bang = z.bang;
+        critical = z.critical;
+        name = m.name;
+        tags = m.rest;
+        is = e ∙ (ap (λ (y : List ℕ). clock ++ (fraction ++ y)) (o.is ∙ (ap (λ (y : List ℕ). o.offset ++ (91 ∷ y)) (z.is ∙ ap (λ (y : List ℕ). z.bang ++ y) m.is))));
+        clock_text = clocked_text k micros o.said v.name v.tags;
+        fraction_text = f;
+        offset_text = subst (λ p. OffsetText p o.offset o.said) n o.text;
+        bang_text = z.banged;
+        name_text = m.word;
+        name_from = ap (λ (p : Part). p.from) there ∙ omega (arith, z.from_is, o.at_is, n);
+        name_to = let p : v.name.to ≡ m.to = ap (λ (p : Part). p.to) there in let q : v.name.from ≡ z.from = ap (λ (p : Part). p.from) there in omega (arith, p, q, m.to_is);
+        each = m.after.each;
+        tags_text = subst (λ (p : Part). TagList (p.to + 1) m.rest m.after.each) (sym there) m.after.tags;
+        tags_told = m.after.come ∙ noted_is m.after.each;
+      };
+      places = ap (λ (p : ℕ). with_sign v p) sign;
     }
 
 -- what is read from the beginning is a mark text
@@ -522,7 +535,7 @@ sound t v h =
     elim (way_taken r.at r.rest v (eqb r.next 46) (Some (progress (Fraction 0) begun.seen)) _ r.after) [
       | inl w ↦
           let f = fraction_sound r.rest 0 begun.seen (r.at + 1) v (omega arith) w.1 in
-          from_offset t r.text (46 ∷ f.digits) f.rest f.at v (r.is ∙ (ap (λ z. r.text ++ (z ∷ r.rest)) (eqb-true r.next 46 w.0) ∙ ap (λ (z : List ℕ). r.text ++ (46 ∷ z)) f.is)) r.fits
+          from_offset t r.text (46 ∷ f.digits) f.rest (micros_of f.digits) f.at v (r.is ∙ (ap (λ z. r.text ++ (z ∷ r.rest)) (eqb-true r.next 46 w.0) ∙ ap (λ (z : List ℕ). r.text ++ (46 ∷ z)) f.is)) r.fits
           (FractionText.some (record { all = f.each; some = omega (arith, f.some); few = omega (arith, f.few) })) (omega (arith, f.at_is, r.at_is, n)) f.signs
-      | inr w ↦ from_offset t r.text [] (r.next ∷ r.rest) r.at v r.is r.fits FractionText.none (omega (arith, r.at_is, n)) (signed_sound r.next r.rest begun.seen r.at v w.1)
+      | inr w ↦ from_offset t r.text [] (r.next ∷ r.rest) 0 r.at v r.is r.fits FractionText.none (omega (arith, r.at_is, n)) (signed_sound r.next r.rest begun.seen r.at v w.1)
     ]

@@ -1,19 +1,20 @@
--- What the tags come to, by the list of them.
-use Rattle.std.proofs.Common.{◌≡◌, ℕ, ◌+◌, Bool, true, false, cond, ◌||◌, List, [], ◌∷◌, ◌++◌, length, drop, Some, None, codes, Option, sym, refl, ap, ◌∙◌, subst, append_assoc, append-nil, arith, length-append}
-use Rattle.std.proofs.lemmas.List.{drop_at}
+-- What tags come to that are noted one after another.
+use Rattle.std.proofs.Common.{◌≡◌, ℕ, Bool, true, false, cond, ◌||◌, List, [], ◌∷◌, ◌++◌, Some, None, Option, sym, refl, ap, ◌∙◌, append_assoc, append-nil}
 use Rattle.std.specs.Option.{option_or}
-use Rattle.mark_form.specs.declared.layout.Layout.{Layout}
 use Rattle.mark_form.specs.declared.layout.Part.{Part}
 use Rattle.mark_form.specs.declared.layout.Tag.{Tag}
 use Rattle.mark_form.specs.declared.layout.Tags.{Tags}
-use Rattle.mark_form.specs.Grammar.{TagsText, MarkText}
-use Rattle.mark_form.specs.TagLaws.{TagAt, TagList, is_calendar, first_calendar, first_offending, bracket_of, value_of, is_critical, TagsSaid}
-use Rattle.mark_form.specs.Tags.{noted}
-use Rattle.mark_form.proofs.Sound.{fits_length}
+use Rattle.mark_form.specs.TagLaws.{TagAt, is_calendar, first_calendar, first_offending, bracket_of, value_of, is_critical, tags_of}
+use Rattle.mark_form.specs.Tags.{no_tags, noted}
 
 -- a listed tag as the steps see it
-abbrev plain : TagAt → Tag
+abbrev pub plain : TagAt → Tag
 plain t = record { bracket = t.bracket; critical = t.critical; is_calendar = is_calendar t }
+
+-- what tags come to with more of them, noted one after another
+abbrev pub noted_all : Tags → List TagAt → Tags
+noted_all g [] = g
+noted_all g (t ∷ ts) = noted_all (noted g (plain t) t.value) ts
 
 -- what tags come to, by the parts of it
 abbrev sums : Option ℕ → Option Part → Bool → Tags
@@ -128,13 +129,11 @@ tracks_more before g t h =
       crit = ap (λ z. (noted z (plain t) t.value).critical) e ∙ (critical_noted g.refused o (is_critical o) t.bracket t.critical (is_calendar t) t.value ∙ (crit_pushed o t ∙ ap is_critical (sym (first_push before t))));
     }
 
--- tags that follow others, listed
-record Listed (before : List TagAt) (at : ℕ) (g : Tags) (xs : List ℕ) (h : Tags) : Type 0 where
-  pub tags : List TagAt
-  pub list : TagList at xs tags
-  pub cal : h.calendar ≡ value_of (first_calendar (before ++ tags))
-  pub crit : h.critical ≡ is_critical (first_calendar (before ++ tags))
-  pub ref : h.refused ≡ option_or g.refused (bracket_of (first_offending before tags))
+-- what tags come to that follow others
+record Summed (before : List TagAt) (g : Tags) (ts : List TagAt) : Type 0 where
+  pub cal : (noted_all g ts).calendar ≡ value_of (first_calendar (before ++ ts))
+  pub crit : (noted_all g ts).critical ≡ is_critical (first_calendar (before ++ ts))
+  pub ref : (noted_all g ts).refused ≡ option_or g.refused (bracket_of (first_offending before ts))
 
 -- nothing more is refused
 or_none : (r : Option ℕ) → r ≡ option_or r None
@@ -147,34 +146,23 @@ or_tag None true t z = refl
 or_tag None false t z = refl
 or_tag (Some n) c t z = refl
 
--- the tags of a text can be listed
-listed : {at : ℕ} {g h : Tags} {xs : List ℕ} (before : List TagAt) → TagsText at g xs h → Tracks before g → Listed before at g xs h
-listed {at} {g} before TagsText.none k = record { tags = []; list = TagList.none; cal = k.cal ∙ ap (λ z. value_of (first_calendar z)) (sym (append-nil before)); crit = k.crit ∙ ap (λ z. is_critical (first_calendar z)) (sym (append-nil before)); ref = or_none g.refused }
-listed {at} {g} {h} before (TagsText.tag {from} {to} {c} k b w r p q more) s =
-    let t : TagAt = record { bracket = at; critical = c; key = k; value = record { from = from; to = to } } in
+-- tag by tag
+summed : (before : List TagAt) (g : Tags) (ts : List TagAt) → Tracks before g → Summed before g ts
+summed before g [] k = record { cal = k.cal ∙ ap (λ z. value_of (first_calendar z)) (sym (append-nil before)); crit = k.crit ∙ ap (λ z. is_critical (first_calendar z)) (sym (append-nil before)); ref = or_none g.refused }
+summed before g (t ∷ ts) s =
     let o = first_calendar before in
-    let n = listed (before ++ (t ∷ [])) more (tracks_more before g t s) in
-    let refused : (noted g (plain t) t.value).refused ≡ option_or g.refused (cond (bad o c (is_calendar t)) (Some at) None) =
-    ap (λ z. (noted z (plain t) t.value).refused) (as_tracked before g s) ∙ refused_noted g.refused o at c (is_calendar t) t.value in
+    let n = summed (before ++ (t ∷ [])) (noted g (plain t) t.value) ts (tracks_more before g t s) in
+    let refused : (noted g (plain t) t.value).refused ≡ option_or g.refused (cond (bad o t.critical (is_calendar t)) (Some t.bracket) None) =
+    ap (λ z. (noted z (plain t) t.value).refused) (as_tracked before g s) ∙ refused_noted g.refused o t.bracket t.critical (is_calendar t) t.value in
     record {
-      tags = t ∷ n.tags;
-      list = TagList.tag k b w r p q n.list;
-      cal = n.cal ∙ ap (λ z. value_of (first_calendar z)) (append_assoc before (t ∷ []) n.tags);
-      crit = n.crit ∙ ap (λ z. is_critical (first_calendar z)) (append_assoc before (t ∷ []) n.tags);
-      ref = n.ref ∙ (ap (λ z. option_or z (bracket_of (first_offending (before ++ (t ∷ [])) n.tags))) refused ∙ or_tag g.refused (bad o c (is_calendar t)) t (first_offending (before ++ (t ∷ [])) n.tags));
+      cal = n.cal ∙ ap (λ z. value_of (first_calendar z)) (append_assoc before (t ∷ []) ts);
+      crit = n.crit ∙ ap (λ z. is_critical (first_calendar z)) (append_assoc before (t ∷ []) ts);
+      ref = n.ref ∙ (ap (λ z. option_or z (bracket_of (first_offending (before ++ (t ∷ [])) ts))) refused ∙ or_tag g.refused (bad o t.critical (is_calendar t)) t (first_offending (before ++ (t ∷ [])) ts));
     }
 
--- the tags of a mark text, by the list of them
-pub tags_said : (t : List ℕ) (l : Layout) → MarkText t l → TagsSaid t l.name.to l.tags
-tags_said t l m =
-    let n = listed [] m.tags_text (record { cal = refl; crit = refl }) in
-    let x = m.clock ++ (m.fraction ++ (m.offset ++ (91 ∷ (m.bang ++ (m.name ++ (93 ∷ [])))))) in
-    let e : t ≡ x ++ m.tags = m.is ∙ simp append_assoc in
-    let k : length x ≡ l.name.to + 1 = simp length-append (omega (arith, fits_length (codes "0000-00-00T00:00:00") m.clock m.clock_text, m.sign_place, m.name_from, m.name_to)) in
-    record {
-      tags = n.tags;
-      there = subst (λ z. TagList (l.name.to + 1) z n.tags) (sym (ap (drop (l.name.to + 1)) e ∙ drop_at x m.tags (l.name.to + 1) k)) n.list;
-      calendar = n.cal;
-      critical = n.crit;
-      refused = n.ref;
-    }
+-- noting all of them gives what they come to
+pub noted_is : (ts : List TagAt) → noted_all no_tags ts ≡ tags_of ts
+noted_is ts =
+    let g = noted_all no_tags ts in
+    let n = summed [] no_tags ts (record { cal = refl; crit = refl }) in
+    ap (λ r. sums r g.calendar g.critical) n.ref ∙ (ap (λ c. sums (tags_of ts).refused c g.critical) n.cal ∙ ap (λ m. sums (tags_of ts).refused (tags_of ts).calendar m) n.crit)

@@ -1,11 +1,10 @@
 -- What a mark text says, read off at the places of its parts. The bytes: 45 `-`, 48 `0`, 58 `:`, 90 `Z`.
-use Rattle.std.specs.Prelude.{◌≡◌, ℕ, ◌+◌, ◌-◌, ◌*◌, Bool, cond, not, ◌&&◌, ◌||◌, List, length, Some, None, Ok, Err, Option, Result, ◌==◌, nat_lt, slice_index}
+use Rattle.std.specs.Prelude.{ℕ, ◌+◌, ◌-◌, ◌*◌, Bool, cond, not, ◌&&◌, ◌||◌, List, length, Some, None, Ok, Err, Option, Result, ◌==◌, nat_lt, slice_index}
 use Rattle.reading.specs.declared.Misread.{Misread}
 use Rattle.reading.specs.Reading.{read_on, limited}
 use Rattle.mark_form.specs.declared.draft.Draft.{Draft}
 use Rattle.mark_form.specs.declared.draft.Said.{Said}
 use Rattle.mark_form.specs.declared.layout.Layout.{Layout}
-use Rattle.mark_form.specs.Grammar.{MarkText}
 use Rattle.mark_form.specs.Scanning.{stepped, ended, begun}
 
 -- the byte at a place, or 0 past the end
@@ -74,9 +73,3 @@ read_layout t = limited 128 (length t) (read_on stepped ended begun 0 t)
 -- the same, read off
 abbrev pub read_draft : List ℕ → Result Draft Misread
 read_draft t = elim (read_layout t) [ Ok l ↦ Ok (draft_of t l) | Err m ↦ Err m ]
-
--- a mark text, and what it says
-pub record DraftText (t : List ℕ) (d : Draft) : Type 0 where
-  pub layout : Layout
-  pub text : MarkText t layout
-  pub says : d ≡ draft_of t layout

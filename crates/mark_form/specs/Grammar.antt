@@ -1,71 +1,66 @@
--- Mark texts as they are written, and where their parts stand. The bytes: 33 `!`, 43 `+`, 45 `-`, 46 `.`, 58 `:`, 61 `=`, 90 `Z`,
--- 91 `[`, 93 `]`.
-use Rattle.std.specs.Prelude.{◌≡◌, ℕ, ◌+◌, Bool, true, false, ◌||◌, List, [], ◌∷◌, ◌++◌, length, codes, ◌==◌}
-use Rattle.std.specs.Str.{bytes_eq}
-use Rattle.reading.specs.Digits.{Digits}
-use Rattle.names.specs.Names.{Runs}
+-- Mark texts as they are written, what they say, and where their parts stand. The bytes: 43 `+`, 45 `-`, 46 `.`, 58 `:`, 84 `T`, 91 `[`,
+-- 93 `]`.
+use Rattle.std.specs.Prelude.{◌≡◌, ◌≢◌, ℕ, ◌+◌, Bool, true, false, List, [], ◌∷◌, ◌++◌, length, Some, None, codes, Option}
+use Rattle.reading.specs.Digits.{value_on, AllDigits, Digits}
+use Rattle.span_text.specs.Grammar.{micros_of}
 use Rattle.names.specs.ZoneNames.{IsZoneName}
+use Rattle.mark_form.specs.declared.draft.Draft.{Draft}
+use Rattle.mark_form.specs.declared.draft.Said.{Said}
 use Rattle.mark_form.specs.declared.layout.Layout.{Layout}
-use Rattle.mark_form.specs.declared.layout.Tag.{Tag}
-use Rattle.mark_form.specs.declared.layout.Tags.{Tags}
-use Rattle.mark_form.specs.Bytes.{is_first_of_key, is_in_key, stands}
-use Rattle.mark_form.specs.Tags.{no_tags, noted}
+use Rattle.mark_form.specs.TagLaws.{Bang, TagAt, TagList, tags_of}
 
--- a text in a form, byte by byte
-abbrev pub Fits : List ℕ → List ℕ → Type 0
-Fits [] [] = Unit {0}
-Fits [] (b ∷ bs) = ⊥
-Fits (k ∷ ks) [] = ⊥
-Fits (k ∷ ks) (b ∷ bs) = (stands k b ≡ true) × Fits ks bs
+-- a number in so many digits
+pub record Number (count : ℕ) (ds : List ℕ) (n : ℕ) : Type 0 where
+  pub all : AllDigits ds
+  pub long : length ds ≡ count
+  pub is : n ≡ value_on 0 ds
 
--- perhaps `.` and 1 to 6 digits
-pub data FractionText : List ℕ → Type 0 where
-  none : FractionText []
-  some : {ds : List ℕ} → Digits 6 ds → FractionText (46 ∷ ds)
+-- `YYYY-MM-DDThh:mm:ss`
+pub record ClockText (t : List ℕ) (d : Draft) : Type 0 where
+  pub year : List ℕ
+  pub month : List ℕ
+  pub day : List ℕ
+  pub hour : List ℕ
+  pub minute : List ℕ
+  pub second : List ℕ
+  pub is : t ≡ year ++ (45 ∷ (month ++ (45 ∷ (day ++ (84 ∷ (hour ++ (58 ∷ (minute ++ (58 ∷ second)))))))))
+  pub year_text : Number 4 year d.year
+  pub month_text : Number 2 month d.month
+  pub day_text : Number 2 day d.day
+  pub hour_text : Number 2 hour d.hour
+  pub minute_text : Number 2 minute d.minute
+  pub second_text : Number 2 second d.second
 
--- `+` or `-`
-abbrev pub IsSign : ℕ → Type 0
-IsSign c = (c == 43 || c == 45) ≡ true
+-- perhaps `.` and 1 to 6 digits; their microseconds
+pub data FractionText : List ℕ → ℕ → Type 0 where
+  none : FractionText [] 0
+  some : {ds : List ℕ} → Digits 6 ds → FractionText (46 ∷ ds) (micros_of ds)
 
--- `Z`, `±hh:mm` or `±hh:mm:ss`
-pub data OffsetText : List ℕ → Type 0 where
-  utc : OffsetText (90 ∷ [])
-  minutes : {c : ℕ} (x : List ℕ) → IsSign c → Fits (codes "00:00") x → OffsetText (c ∷ x)
-  seconds : {c : ℕ} (x y : List ℕ) → IsSign c → Fits (codes "00:00") x → Fits (codes "00") y → OffsetText (c ∷ (x ++ (58 ∷ y)))
+-- `+`, or `-` for minus
+pub data Sign : ℕ → Bool → Type 0 where
+  plus : Sign 43 false
+  minus : Sign 45 true
 
--- perhaps `!`, which marks critical
-pub data Bang : List ℕ → Bool → Type 0 where
-  plain : Bang [] false
-  critical : Bang (33 ∷ []) true
+-- an offset by its sign's place, whether it is minus, and its hours, minutes and seconds
+abbrev pub said : ℕ → Bool → ℕ → ℕ → ℕ → Said
+said place below h m s = record { sign = place; minus = below; hours = h; minutes = m; seconds = s }
+
+-- `Z`, `±hh:mm` or `±hh:mm:ss` from a place on, and the offset that it says; `Z` and `-00:00` say none
+pub data OffsetText (place : ℕ) : List ℕ → Option Said → Type 0 where
+  utc : OffsetText place (codes "Z") None
+  unknown : OffsetText place (codes "-00:00") None
+  minutes : {c h m : ℕ} {minus : Bool} {hh mm : List ℕ} → Sign c minus → Number 2 hh h → Number 2 mm m
+      → c ∷ (hh ++ (58 ∷ mm)) ≢ codes "-00:00"
+      → OffsetText place (c ∷ (hh ++ (58 ∷ mm))) (Some (said place minus h m 0))
+  seconds : {c h m s : ℕ} {minus : Bool} {hh mm ss : List ℕ} → Sign c minus → Number 2 hh h → Number 2 mm m → Number 2 ss s
+      → OffsetText place (c ∷ (hh ++ (58 ∷ (mm ++ (58 ∷ ss))))) (Some (said place minus h m s))
 
 -- a zone's name, of any length
 abbrev pub ZoneText : List ℕ → Type 0
 ZoneText name = IsZoneName name (record {})
 
--- a key after its first byte
-abbrev pub AllInKey : List ℕ → Type 0
-AllInKey [] = Unit {0}
-AllInKey (b ∷ bs) = (is_in_key b ≡ true) × AllInKey bs
-
--- a tag's key
-abbrev pub KeyText : List ℕ → Type 0
-KeyText [] = ⊥
-KeyText (b ∷ bs) = (is_first_of_key b ≡ true) × AllInKey bs
-
--- a tag by its `[`, whether it is critical, and its key
-abbrev pub tagged : ℕ → Bool → List ℕ → Tag
-tagged bracket c key = record { bracket = bracket; critical = c; is_calendar = bytes_eq key (codes "u-ca") }
-
--- tags from a place on, with what those before come to, and what all of them do
-pub data TagsText : ℕ → Tags → List ℕ → Tags → Type 0 where
-  none : {at : ℕ} {g : Tags} → TagsText at g [] g
-  tag : {at from to : ℕ} {g h : Tags} {c : Bool} {e : List ℕ} (k : List ℕ) {v xs : List ℕ} → Bang e c → KeyText k → Runs v
-      → from ≡ at + (length e + (length k + 2)) → to ≡ from + length v
-      → TagsText (to + 1) (noted g (tagged at c k) (record { from = from; to = to })) xs h
-      → TagsText at g (91 ∷ (e ++ (k ++ (61 ∷ (v ++ (93 ∷ xs)))))) h
-
--- a mark text, whose parts stand at these places
-pub record MarkText (t : List ℕ) (l : Layout) : Type 0 where
+-- a mark text, and what it says; the offset begins after the clock's 19 bytes and the fraction
+pub record DraftText (t : List ℕ) (d : Draft) : Type 0 where
   pub clock : List ℕ
   pub fraction : List ℕ
   pub offset : List ℕ
@@ -74,12 +69,23 @@ pub record MarkText (t : List ℕ) (l : Layout) : Type 0 where
   pub name : List ℕ
   pub tags : List ℕ
   pub is : t ≡ clock ++ (fraction ++ (offset ++ (91 ∷ (bang ++ (name ++ (93 ∷ tags))))))
-  pub clock_text : Fits (codes "0000-00-00T00:00:00") clock
-  pub fraction_text : FractionText fraction
-  pub offset_text : OffsetText offset
+  pub clock_text : ClockText clock d
+  pub fraction_text : FractionText fraction d.micros
+  pub offset_text : OffsetText (19 + length fraction) offset d.offset
   pub bang_text : Bang bang critical
   pub name_text : ZoneText name
-  pub tags_text : TagsText (l.name.to + 1) no_tags tags l.tags
-  pub sign_place : l.sign ≡ 19 + length fraction
-  pub name_from : l.name.from ≡ l.sign + (length offset + (length bang + 1))
-  pub name_to : l.name.to ≡ l.name.from + length name
+  pub name_from : d.name.from ≡ 19 + length fraction + (length offset + (length bang + 1))
+  pub name_to : d.name.to ≡ d.name.from + length name
+  pub each : List TagAt
+  pub tags_text : TagList (d.name.to + 1) tags each
+  pub tags_told : d.tags ≡ tags_of each
+
+-- where its parts stand
+abbrev pub layout_of : {t : List ℕ} {d : Draft} → DraftText t d → Layout
+layout_of {d} x = record { sign = 19 + length x.fraction; name = d.name; tags = d.tags }
+
+-- a mark text, whose parts stand at these places
+pub record MarkText (t : List ℕ) (l : Layout) : Type 0 where
+  pub draft : Draft
+  pub text : DraftText t draft
+  pub places : l ≡ layout_of text

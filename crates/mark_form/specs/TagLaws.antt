@@ -1,5 +1,5 @@
--- The tags of a mark text, one by one, and which of them count.
-use Rattle.std.specs.Prelude.{◌≡◌, ℕ, ◌+◌, Bool, false, cond, ◌||◌, List, [], ◌∷◌, ◌++◌, length, drop, Some, None, Ok, Err, codes, Option, Result}
+-- The tags of a mark text, one by one, and which of them count. The bytes: 33 `!`, 61 `=`, 91 `[`, 93 `]`.
+use Rattle.std.specs.Prelude.{◌≡◌, ℕ, ◌+◌, Bool, true, false, cond, ◌||◌, List, [], ◌∷◌, ◌++◌, length, drop, Some, None, Ok, Err, codes, Option, Result}
 use Rattle.std.specs.Str.{bytes_eq}
 use Rattle.reading.specs.declared.Misread.{Misread}
 use Rattle.names.specs.Names.{Runs}
@@ -7,7 +7,22 @@ use Rattle.mark_form.specs.declared.draft.Draft.{Draft}
 use Rattle.mark_form.specs.declared.layout.Layout.{Layout}
 use Rattle.mark_form.specs.declared.layout.Part.{Part}
 use Rattle.mark_form.specs.declared.layout.Tags.{Tags}
-use Rattle.mark_form.specs.Grammar.{Bang, KeyText}
+use Rattle.mark_form.specs.Bytes.{is_first_of_key, is_in_key}
+
+-- perhaps `!`, which marks critical
+pub data Bang : List ℕ → Bool → Type 0 where
+  plain : Bang [] false
+  critical : Bang (33 ∷ []) true
+
+-- a key after its first byte
+abbrev pub AllInKey : List ℕ → Type 0
+AllInKey [] = Unit {0}
+AllInKey (b ∷ bs) = (is_in_key b ≡ true) × AllInKey bs
+
+-- a tag's key
+abbrev pub KeyText : List ℕ → Type 0
+KeyText [] = ⊥
+KeyText (b ∷ bs) = (is_first_of_key b ≡ true) × AllInKey bs
 
 -- a tag: the place of its `[`, whether it is critical, its key, and where its value stands
 pub record TagAt : Type 0 where
@@ -56,13 +71,19 @@ abbrev pub is_critical : Option TagAt → Bool
 is_critical None = false
 is_critical (Some t) = t.critical
 
+-- what tags come to
+abbrev pub tags_of : List TagAt → Tags
+tags_of ts = record {
+  refused = bracket_of (first_offending [] ts);
+  calendar = value_of (first_calendar ts);
+  critical = is_critical (first_calendar ts);
+}
+
 -- what the tags come to that follow the name, which ends at a place
 pub record TagsSaid (t : List ℕ) (name_end : ℕ) (g : Tags) : Type 0 where
   pub tags : List TagAt
   pub there : TagList (name_end + 1) (drop (name_end + 1) t) tags
-  pub calendar : g.calendar ≡ value_of (first_calendar tags)
-  pub critical : g.critical ≡ is_critical (first_calendar tags)
-  pub refused : g.refused ≡ bracket_of (first_offending [] tags)
+  pub come : g ≡ tags_of tags
 
 -- what an answer's tags come to
 abbrev pub LayoutTags : List ℕ → Result Layout Misread → Type 0

@@ -1,8 +1,8 @@
 // Reading a mark text.
 ghost use Rattle.std.specs.Prelude.{◌≡◌};
 ghost use Rattle.reading.specs.Places.{AnswersWithin};
-ghost use Rattle.mark_form.specs.Grammar.{MarkText};
-ghost use Rattle.mark_form.specs.Drafts.{read_layout, read_draft, DraftText};
+ghost use Rattle.mark_form.specs.Grammar.{DraftText, MarkText};
+ghost use Rattle.mark_form.specs.Drafts.{read_layout, read_draft};
 ghost use Rattle.mark_form.specs.TagLaws.{LayoutTags, DraftTags};
 
 use crate::draft::{Draft, draft_of};
@@ -19,6 +19,7 @@ pub fn read_layout(text: &[u8]) -> Result<Layout, Misread>
     ensures value { result ≡ read_layout text.now }
     ensures law { AnswersWithin MarkText 128 text.now result }
     ensures tags { LayoutTags text.now result }
+    ensures one { (f g : Layout) → MarkText text.now f → MarkText text.now g → f ≡ g }
 {
     read_within(START, text, MARK_TEXT_LIMIT)
 }
@@ -28,6 +29,7 @@ pub fn read_draft(text: &[u8]) -> Result<Draft, Misread>
     ensures value { result ≡ read_draft text.now }
     ensures law { AnswersWithin DraftText 128 text.now result }
     ensures tags { DraftTags text.now result }
+    ensures one { (f g : Draft) → DraftText text.now f → DraftText text.now g → f ≡ g }
 {
     let layout = read_layout(text)?;
     Ok(draft_of(text, layout))

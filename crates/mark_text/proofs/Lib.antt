@@ -1,9 +1,12 @@
 pub mod Answered
 pub mod Dates
 pub mod Forms
+pub mod Judging
 pub mod Lookups
 pub mod Named
 pub mod Parts
+pub mod Ranges
+pub mod Refusing
 pub mod Tells
 pub mod Texts
 pub mod There

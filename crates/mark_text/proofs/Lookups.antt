@@ -15,7 +15,8 @@ module _ (name : ℕ → List ℕ) (n : List ℕ) where
   abbrev next : ℕ → Option ℕ → Option ℕ
   next c o = elim o [ Some i ↦ Some i | None ↦ cond (bytes_eq (name c) n) (Some c) None ]
 
-  none_bears : (c : ℕ) → ((k : ℕ) → k < c → name k ≢ n) → number_of name c n ≡ None
+  -- a name that none bears isn't found
+  pub none_bears : (c : ℕ) → ((k : ℕ) → k < c → name k ≢ n) → number_of name c n ≡ None
   none_bears zero h = refl
   none_bears (suc c) h =
       ap (next c) (none_bears c (λ k l. h k (omega arith)))
@@ -49,7 +50,7 @@ module _ (name : ℕ → List ℕ) (n : List ℕ) where
   lowest_found c i l = one_bears c i l.there l.bears l.lowest
 
   -- what is found bears the name, lowest; and where none is found, none bears it
-  number_told : (c : ℕ) → MatchOption (number_of name c n) ((k : ℕ) → k < c → name k ≢ n) (Lowest name c n)
+  pub number_told : (c : ℕ) → MatchOption (number_of name c n) ((k : ℕ) → k < c → name k ≢ n) (Lowest name c n)
   number_told zero = λ k l. absurd (omega arith)
   number_told (suc c) = by (number_of name c n) (number_told c)
     where

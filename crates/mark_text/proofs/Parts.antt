@@ -1,52 +1,46 @@
 -- Where the parts of a mark text stand: inside it.
-use Rattle.std.proofs.Common.{◌≡◌, ℕ, ◌+◌, ◌<◌, ◌≤◌, Bool, true, false, cond, List, ◌∷◌, ◌++◌, length, drop, IfSome, Some, None, Option, sym, refl, ap, ◌∙◌, subst, arith}
+use Rattle.std.proofs.Common.{ℕ, ◌+◌, ◌<◌, ◌≤◌, Bool, true, false, cond, List, ◌∷◌, ◌++◌, length, drop, IfSome, Some, None, Option, sym, refl, ap, subst, arith}
 use Rattle.std.proofs.lemmas.List.{length-drop, length-append}
-use Rattle.std.specs.Prelude.{codes}
 use Rattle.mark_form.specs.declared.draft.Draft.{Draft}
-use Rattle.mark_form.specs.declared.layout.Layout.{Layout}
+use Rattle.mark_form.specs.declared.draft.Said.{Said}
 use Rattle.mark_form.specs.declared.layout.Part.{Part}
 use Rattle.mark_form.specs.declared.layout.Tags.{Tags}
-use Rattle.mark_form.specs.Drafts.{DraftText, draft_of, said_at}
-use Rattle.mark_form.specs.Grammar.{MarkText}
+use Rattle.mark_form.specs.Grammar.{OffsetText, DraftText, layout_of}
 use Rattle.mark_form.specs.TagLaws.{TagAt, TagList, TagsSaid, first_calendar, is_calendar, value_of}
 use Rattle.mark_form.proofs.Answering.{sign_low}
-use Rattle.mark_form.proofs.Sound.{fits_length}
+use Rattle.mark_form.proofs.Forms.{clock_length}
+use Rattle.mark_form.proofs.Values.{four_small}
 use Rattle.mark_text.specs.Fields.{SignFits}
 
 -- a part that stands inside a text
 abbrev pub Inside : List ℕ → Part → Type 0
 Inside t p = (p.from ≤ p.to) × (p.to ≤ length t)
 
--- a layout's name stands inside, with a byte after it
-pub name_inside : (t : List ℕ) (l : Layout) → MarkText t l → (l.name.from ≤ l.name.to) × (l.name.to + 1 ≤ length t)
-name_inside t l m =
+-- the name of a draft stands inside, with a byte after it
+pub draft_name : (t : List ℕ) (d : Draft) → DraftText t d → (d.name.from ≤ d.name.to) × (d.name.to + 1 ≤ length t)
+draft_name t d m =
     let a = length-append m.clock (m.fraction ++ (m.offset ++ (91 ∷ (m.bang ++ (m.name ++ (93 ∷ m.tags)))))) in
     let b = length-append m.fraction (m.offset ++ (91 ∷ (m.bang ++ (m.name ++ (93 ∷ m.tags))))) in
     let c = length-append m.offset (91 ∷ (m.bang ++ (m.name ++ (93 ∷ m.tags)))) in
-    let d = length-append m.bang (m.name ++ (93 ∷ m.tags)) in
-    let e = length-append m.name (93 ∷ m.tags) in
-    let k : length m.clock ≡ 19 = fits_length (codes "0000-00-00T00:00:00") m.clock m.clock_text in
-    let f = ap length m.is in
-    (omega (arith, m.name_to), omega (arith, a, b, c, d, e, k, f, m.sign_place, m.name_from, m.name_to))
+    let e = length-append m.bang (m.name ++ (93 ∷ m.tags)) in
+    let f = length-append m.name (93 ∷ m.tags) in
+    let k = clock_length m.clock d m.clock_text in
+    let g = ap length m.is in
+    (omega (arith, m.name_to), omega (arith, a, b, c, e, f, k, g, m.name_from, m.name_to))
 
-sign_by : (t : List ℕ) (s : ℕ) (b : Bool) → s < 90 → IfSome (cond b None (Some (said_at t s))) (λ x. x.sign < 90)
-sign_by t s true h = tt
-sign_by t s false h = h
+sign_is : {place : ℕ} {x : List ℕ} {o : Option Said} → OffsetText place x o → place < 90 → IfSome o (λ s. s.sign < 90)
+sign_is OffsetText.utc h = tt
+sign_is OffsetText.unknown h = tt
+sign_is (OffsetText.minutes s i j n) h = h
+sign_is (OffsetText.seconds s i j k) h = h
 
-sign_of : (t : List ℕ) (l : Layout) → l.sign < 90 → SignFits (draft_of t l)
-unfolding draft_of
-sign_of t l h = sign_by t l.sign _ h
-
-name_of : (t : List ℕ) (l : Layout) → (draft_of t l).name ≡ l.name
-unfolding draft_of
-name_of t l = refl
-
+-- an offset that is said has its sign near the beginning
 pub sign_fits : (t : List ℕ) (d : Draft) → DraftText t d → SignFits d
-sign_fits t d x = subst SignFits (sym x.says) (sign_of t x.layout (sign_low t x.layout x.text))
+sign_fits t d x = sign_is x.offset_text (sign_low t (layout_of x) (record { draft = d; text = x; places = refl }))
 
--- the name of a draft
-pub draft_name : (t : List ℕ) (d : Draft) → DraftText t d → (d.name.from ≤ d.name.to) × (d.name.to + 1 ≤ length t)
-draft_name t d x = subst (λ (p : Part). (p.from ≤ p.to) × (p.to + 1 ≤ length t)) (sym (ap (λ (y : Draft). y.name) x.says ∙ name_of t x.layout)) (name_inside t x.layout x.text)
+-- a year has four digits
+pub year_small : (t : List ℕ) (d : Draft) → DraftText t d → d.year ≤ 9999
+year_small t d x = let c = x.clock_text in four_small c.year d.year c.year_text
 
 -- a tag's value ends by a place
 abbrev EndsBy : ℕ → TagAt → Type 0
@@ -81,5 +75,5 @@ value_part t (Some g) h = h
 pub calendar_inside : (t : List ℕ) (n : ℕ) (g : Tags) → n + 1 ≤ length t → TagsSaid t n g → IfSome g.calendar (Inside t)
 calendar_inside t n g h s =
     let d = length-drop (n + 1) t in
-    subst (λ (o : Option Part). IfSome o (Inside t)) (sym s.calendar)
+    subst (λ (o : Option Part). IfSome o (Inside t)) (sym (ap (λ (z : Tags). z.calendar) s.come))
     (value_part t (first_calendar s.tags) (later (first_calendar s.tags) ((n + 1) + length (drop (n + 1) t)) (length t) (omega (arith, d)) (value_inside s.there)))

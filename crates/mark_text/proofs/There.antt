@@ -1,26 +1,19 @@
 -- A mark is there exactly if its test says so, and what a text says is there.
-use Rattle.std.proofs.Common.{◌≡◌, ℕ, true, false, not, ◌&&◌, List, ℤ, Some, None, Ok, Option, MatchOption, Result, is_some, refl, sym, ap, ◌∙◌, subst}
-use Rattle.std.specs.Prelude.{ok_or}
+use Rattle.std.proofs.Common.{◌≡◌, ℕ, true, false, not, ◌&&◌, List, ℤ, Some, None, Ok, Option, MatchOption, Result, MatchResult, is_some, refl, sym, ap, ◌∙◌, subst}
 use Rattle.std.proofs.lemmas.Bool.{and_parts, and_from, not-true, not_from_false, eqb-true, eq-eqb, both_ways, false_from_ne_true}
 use Rattle.timebase.specs.declared.fault.Fault.{Fault}
-use Rattle.timebase.specs.declared.fault.Fault.TheVariants.{UnknownZone, UnknownCalendar}
 use Rattle.timebase.specs.Instants.{is_instant}
 use Rattle.zone.specs.Zones.{Zone, Zones, is_blank}
 use Rattle.calendar.specs.Calendars.{Calendars}
-use Rattle.local_times.specs.Chains.{◌>>=◌}
-use Rattle.local_times.specs.Locals.{second_of, Known, offset_at}
-use Rattle.local_times.proofs.Locals.{instant_bounds, found}
-use Rattle.local_times.proofs.Results.{err_ok, ok_same}
-use Rattle.mark_form.specs.declared.draft.Draft.{Draft}
-use Rattle.mark_form.specs.Drafts.{read_draft}
-use Rattle.mark_trip.specs.RoundTrip.{part_of}
-use Rattle.mark_text.specs.declared.fields.Fields.{Fields}
+use Rattle.local_times.specs.Locals.{second_of, Known}
+use Rattle.local_times.proofs.Locals.{instant_bounds}
 use Rattle.mark_text.specs.declared.mark.Mark.{Mark}
-use Rattle.mark_text.specs.Fields.{fields_said, instant_said}
 use Rattle.mark_text.specs.Marks.{IsThere, Lowest, number_of, is_at, is_lowest, is_known, mark_there}
-use Rattle.mark_text.specs.Reading.{or_unreadable, tags_said, zone_said, calendar_meant, calendar_place, calendar_said, agreed, read_answer}
+use Rattle.mark_text.specs.Meanings.{Says}
+use Rattle.mark_text.specs.Reading.{read_answer}
+use Rattle.mark_text.specs.Refusals.{Refused}
+use Rattle.mark_text.proofs.Judging.{judged}
 use Rattle.mark_text.proofs.Lookups.{lowest_found, number_own}
-use Rattle.mark_text.proofs.Tells.{then_ok}
 use Rattle.mark_text.proofs.Trips.{in_range}
 
 -- ── the parts of the test ──
@@ -73,42 +66,5 @@ found_there zs cs m P None h = sym (not_there zs cs m h)
 
 -- ── what a text says ──
 
-or_told : (o : Option ℕ) (e : Fault) (n : ℕ) → ok_or o e ≡ Ok n → o ≡ Some n
-or_told (Some k) e n h = ap Some (ok_same h)
-or_told None e n h = err_ok h
-
-module _ (zs : Zones) (cs : Calendars) (t : List ℕ) where
-  abbrev after_offset : Draft → Fields → ℕ → ℕ → ℤ → Result Mark Fault
-  after_offset d f z k o = agreed f.offset o d.offset >>= λ _. Ok (record { instant = instant_said f; zone = z; calendar = k })
-
-  abbrev after_calendar : Draft → Fields → ℕ → ℕ → Result Mark Fault
-  after_calendar d f z k = offset_at (zs.value z) (instant_said f) >>= after_offset d f z k
-
-  abbrev after_zone : Draft → Fields → ℕ → Result Mark Fault
-  after_zone d f z = calendar_said cs t d.tags.calendar >>= after_calendar d f z
-
-  abbrev after_tags : Draft → Fields → Result Mark Fault
-  after_tags d f = zone_said zs t d.name >>= after_zone d f
-
-  abbrev after_fields : Draft → Fields → Result Mark Fault
-  after_fields d f = tags_said d.tags >>= λ _. after_tags d f
-
-  pub read_there : (m : Mark) → read_answer zs cs t ≡ Ok m → IsThere zs cs m
-  read_there m e =
-      let r = then_ok (or_unreadable (read_draft t)) (λ d. fields_said d >>= after_fields d) m e in
-      let d = r.value in
-      let s = then_ok (fields_said d) (after_fields d) m r.next in
-      let f = s.value in
-      let g = then_ok (tags_said d.tags) (λ _. after_tags d f) m s.next in
-      let z = then_ok (zone_said zs t d.name) (after_zone d f) m g.next in
-      let k = then_ok (calendar_said cs t d.tags.calendar) (after_calendar d f z.value) m z.next in
-      let o = then_ok (offset_at (zs.value z.value) (instant_said f)) (after_offset d f z.value k.value) m k.next in
-      let a = then_ok (agreed f.offset o.value d.offset) (λ _. Ok (record { instant = instant_said f; zone = z.value; calendar = k.value })) m o.next in
-      let zone = number_of zs.name zs.count (part_of t d.name) in
-      let calendar = number_of cs.name cs.count (calendar_meant t d.tags.calendar) in
-      subst (IsThere zs cs) (ok_same a.next)
-      (record {
-        zone = number_own zs.name (part_of t d.name) zs.count z.value (or_told zone (UnknownZone d.name.from) z.value z.was);
-        calendar = number_own cs.name (calendar_meant t d.tags.calendar) cs.count k.value (or_told calendar (UnknownCalendar (calendar_place t d.tags.calendar)) k.value k.was);
-        known = (found (zs.value z.value) (instant_said f) o.value (sym o.was)).known;
-      })
+pub read_there : (zs : Zones) (cs : Calendars) (t : List ℕ) (m : Mark) → read_answer zs cs t ≡ Ok m → IsThere zs cs m
+read_there zs cs t m e = let says : Says zs cs t m = subst (λ (r : Result Mark Fault). MatchResult r (Says zs cs t) (Refused zs cs t)) e (judged zs cs t) in says.there

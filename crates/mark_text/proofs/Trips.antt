@@ -25,14 +25,17 @@ use Rattle.local_times.proofs.Locals.{floor_day, floor_second}
 use Rattle.mark_form.specs.declared.draft.Draft.{Draft}
 use Rattle.mark_form.specs.declared.draft.Said.{Said}
 use Rattle.mark_form.specs.declared.layout.Part.{Part}
+use Rattle.mark_form.specs.declared.layout.Tags.{Tags}
+use Rattle.mark_form.proofs.Answering.{draft_reads}
 use Rattle.mark_writing.specs.declared.stamp.Stamp.{Stamp}
+use Rattle.mark_writing.proofs.Lengths.{mark_short}
 use Rattle.mark_writing.specs.Canonical.{is_iso8601, mark_text, date_text, clock_text}
 use Rattle.mark_trip.specs.RoundTrip.{part_of, part_in, said_seconds, ReadsBack}
 use Rattle.mark_text.specs.declared.fields.Fields.{Fields}
 use Rattle.mark_text.specs.declared.mark.Mark.{Mark}
 use Rattle.mark_text.specs.Fields.{date_of, wrong_date, day_said, clock_said, shift_said, offset_said, fields_said, instant_said}
 use Rattle.mark_text.specs.Marks.{IsThere, Lowest, number_of}
-use Rattle.mark_text.specs.Reading.{zone_said, calendar_meant, calendar_place, calendar_said, agreed, read_answer}
+use Rattle.mark_text.specs.Reading.{tags_said, zone_said, calendar_meant, calendar_place, calendar_said, agreed, read_answer}
 use Rattle.mark_text.specs.Shown.{ShownBy}
 use Rattle.mark_text.proofs.Answered.{answered}
 use Rattle.mark_text.proofs.Dates.{numbered}
@@ -53,6 +56,10 @@ shift_by said a b c = ap (λ (r : Result ℕ Fault). r >>= λ _. Ok (said_second
 pub fields_by : (d : Draft) (n : ℕ) (o : Option ℤ) → day_said d ≡ Ok n → d.hour < 24 → d.minute < 60 → d.second < 60 → offset_said d.offset ≡ Ok o →
     fields_said d ≡ Ok (record { day = n; clock = d.hour * 3600 + d.minute * 60 + d.second; micros = d.micros; offset = o })
 fields_by d n o e a b c f = rw (e, clock_by 11 d.hour d.minute d.second a b c, f) refl
+
+-- what tags answer whose first refused one is known
+pub tags_by : (g : Tags) (o : Option ℕ) → g.refused ≡ o → tags_said g ≡ elim o as (λ _. Result (Unit {0}) Fault) [ None ↦ Ok tt | Some bracket ↦ Err (CriticalTag bracket) ]
+tags_by g o e = ap (λ (r : Option ℕ). elim r as (λ _. Result (Unit {0}) Fault) [ None ↦ Ok tt | Some bracket ↦ Err (CriticalTag bracket) ]) e
 
 -- ── instants ──
 
@@ -141,7 +148,7 @@ module _ (zs : Zones) (cs : Calendars) (m : Mark) (s : Stamp) (there : IsThere z
   pub reads_back : read_answer zs cs (mark_text s) ≡ Ok m
   reads_back =
       let o = offset (f (second_of m.instant)) in
-      answered zs cs (mark_text s) d said m.zone m.calendar o (Ok tt) reads.reads fields_same (ap (λ (r : Option ℕ). elim r [ None ↦ Ok tt | Some bracket ↦ Err (CriticalTag bracket) ]) reads.unrefused)
+      answered zs cs (mark_text s) d said m.zone m.calendar o (Ok tt) (draft_reads (mark_text s) d reads.text (omega (arith, mark_short s))) fields_same (tags_by d.tags None reads.unrefused)
       (zone_by zs (mark_text s) d.name m.zone there.zone (reads.zone ∙ shown.zone))
       (calendar_by cs (mark_text s) d.tags.calendar m.calendar there.calendar (meant (mark_text s) d.tags.calendar s.calendar.now (is_iso8601 s.calendar.now) refl reads.calendar ∙ shown.calendar))
       (ap (offset_at f) instant_same ∙ known_offset f m.instant there.known)

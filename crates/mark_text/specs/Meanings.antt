@@ -1,5 +1,5 @@
 -- What a text says, in the words of the subject; exactly such texts are accepted.
-use Rattle.std.specs.Prelude.{◌≡◌, ◌≢◌, Err, Result, ℕ, ◌+◌, ◌*◌, ◌<◌, ◌≤◌, List, length, ℤ, pos, ◌+ℤ◌, ◌-ℤ◌, ◌*ℤ◌, Some, None, Option}
+use Rattle.std.specs.Prelude.{◌≡◌, ◌≢◌, Err, Result, ℕ, ◌+◌, ◌*◌, ◌≤◌, List, length, ℤ, pos, ◌+ℤ◌, ◌-ℤ◌, ◌*ℤ◌, Some, None, Option}
 use Rattle.timebase.specs.declared.fault.Fault.{Fault}
 use Rattle.timebase.specs.declared.fault.Fault.TheVariants.{Unreadable}
 use Rattle.reading.specs.Places.{RefusedWithin}
@@ -10,49 +10,58 @@ use Rattle.calendar.specs.Calendars.{Calendars}
 use Rattle.local_times.specs.Locals.{count_of, second_of}
 use Rattle.mark_form.specs.declared.draft.Draft.{Draft}
 use Rattle.mark_form.specs.declared.draft.Said.{Said}
-use Rattle.mark_form.specs.Drafts.{DraftText}
-use Rattle.mark_form.specs.TagLaws.{TagsSaid}
+use Rattle.mark_form.specs.Grammar.{DraftText}
 use Rattle.mark_trip.specs.RoundTrip.{part_of, said_seconds}
 use Rattle.mark_text.specs.declared.mark.Mark.{Mark}
 use Rattle.mark_text.specs.Fields.{date_of}
 use Rattle.mark_text.specs.Marks.{IsThere}
+use Rattle.mark_text.specs.Ranges.{AllFit, numbers_of}
 use Rattle.mark_text.specs.Reading.{calendar_meant}
 
--- an offset that there is
-pub record OffsetSaid (said : Said) : Type 0 where
-  pub hours : said.hours < 24
-  pub minutes : said.minutes < 60
-  pub seconds : said.seconds < 60
-
--- the instant of a local time (in seconds, as if in UTC) and microseconds: less the offset that is said, which is the zone's there; or
--- itself, in UTC, where none is said
-abbrev pub InstantSaid : Zone → ℤ → ℕ → Option Said → ℤ → Type 0
-InstantSaid zone local micros None i = i ≡ (local *ℤ pos 1000000) +ℤ pos micros
-InstantSaid zone local micros (Some said) i = OffsetSaid said × (i ≡ ((local -ℤ said_seconds said) *ℤ pos 1000000) +ℤ pos micros) × (said_seconds said ≡ offset (zone (second_of i)))
-
--- the text is in form, its date is that of a day, its clock time one of the day, and the mark has the instant, the zone and the calendar
--- that it says; no tag of it is refused, and the calendar is told by the first u-ca
-pub record Says (zs : Zones) (cs : Calendars) (t : List ℕ) (m : Mark) : Type 0 where
+-- in form, and not too long
+pub record Formed (t : List ℕ) (d : Draft) : Type 0 where
+  pub text : DraftText t d
   pub short : length t ≤ 128
-  pub draft : Draft
-  pub text : DraftText t draft
+
+-- and every number fits
+pub record Fitting (t : List ℕ) (d : Draft) : Type 0 where
+  pub formed : Formed t d
+  pub fit : AllFit (numbers_of d)
+
+-- and no tag is refused
+pub record Tagged (t : List ℕ) (d : Draft) : Type 0 where
+  pub fitting : Fitting t d
+  pub unrefused : d.tags.refused ≡ None
+
+-- the offset of the clock, which is UTC where none is said
+abbrev pub clock_offset : Option Said → ℤ
+clock_offset None = pos 0
+clock_offset (Some said) = said_seconds said
+
+-- the instant is the said local time less the said offset
+pub record InstantSaid (d : Draft) (i : ℤ) : Type 0 where
   pub number : ℕ
-  pub date : HasDate gregorian_years number (date_of draft)
-  pub hour : draft.hour < 24
-  pub minute : draft.minute < 60
-  pub second : draft.second < 60
-  pub instant : InstantSaid (zs.value m.zone) (count_of (pos number) (draft.hour * 3600 + draft.minute * 60 + draft.second)) draft.micros draft.offset m.instant
+  pub date : HasDate gregorian_years number (date_of d)
+  pub is : i ≡ ((count_of (pos number) (d.hour * 3600 + d.minute * 60 + d.second) -ℤ clock_offset d.offset) *ℤ pos 1000000) +ℤ pos d.micros
+
+-- an offset that is said is the zone's
+abbrev pub Agreed : Zone → ℤ → Option Said → Type 0
+Agreed zone i None = Unit {0}
+Agreed zone i (Some said) = said_seconds said ≡ offset (zone (second_of i))
+
+-- the text is in form, its numbers fit, no tag of it is refused, and the mark that it says is there: it has the zone, the calendar and the
+-- instant that are said, and the said offset is the zone's there
+pub record Says (zs : Zones) (cs : Calendars) (t : List ℕ) (m : Mark) : Type 0 where
+  pub draft : Draft
+  pub tagged : Tagged t draft
   pub zone : zs.name m.zone ≡ part_of t draft.name
-  pub tags : TagsSaid t draft.name.to draft.tags
-  pub unrefused : draft.tags.refused ≡ None
   pub calendar : cs.name m.calendar ≡ calendar_meant t draft.tags.calendar
+  pub instant : InstantSaid draft m.instant
+  pub agreed : Agreed (zs.value m.zone) m.instant draft.offset
   pub there : IsThere zs cs m
 
--- a text of the grammar, not too long
-pub record InForm (t : List ℕ) : Type 0 where
-  pub draft : Draft
-  pub text : DraftText t draft
-  pub short : length t ≤ 128
+abbrev pub InForm : List ℕ → Type 0
+InForm t = (d : Draft) × Formed t d
 
 -- refused by 3 is exactly what is not in form, at the length of its longest viable prefix, or at the limit where that is less
 pub record FormTold (t : List ℕ) (r : Result Mark Fault) : Type 0 where

@@ -1,8 +1,10 @@
 // Reading a mark.
-ghost use Rattle.std.specs.Prelude.{◌≡◌, ◌<◌, Ok, IfOk};
+ghost use Rattle.std.specs.Prelude.{◌≡◌, ◌<◌, Ok, Err, IfOk, IfErr};
 ghost use Rattle.local_times.specs.Locals.{offset_at};
 ghost use Rattle.mark_text.specs.Meanings.{Says, FormTold};
 ghost use Rattle.mark_text.specs.Reading.{read_answer, tags_said, agreed};
+ghost use Rattle.mark_text.specs.Refusals.{Refused};
+ghost use Rattle.timebase.specs.declared.fault.Fault.{Fault as AnyFault};
 
 use crate::fields::{instant_of, read_fields};
 use crate::lookup::{find_calendar, find_zone};
@@ -54,8 +56,7 @@ fn mark_of<Z: ZoneSource, C: CalendarSource>(
     calendars: &C,
     text: &[u8],
 ) -> Result<Mark, Fault>
-    ensures value { result ≡ read_answer (Z.ZoneSource.zones zones.now) (C.CalendarSource.calendars calendars.now) text.now }
-    ensures meaning { IfOk result (Says (Z.ZoneSource.zones zones.now) (C.CalendarSource.calendars calendars.now) text.now) }
+    ensures { result ≡ read_answer (Z.ZoneSource.zones zones.now) (C.CalendarSource.calendars calendars.now) text.now }
 {
     let draft = read_draft(text)?;
     let fields = read_fields(&draft)?;
@@ -72,8 +73,8 @@ fn mark_of<Z: ZoneSource, C: CalendarSource>(
     })
 }
 
-// The mark that a text says, over a zone source and a calendar source, or why it says none. A text that is none of the form, or
-// too long, is refused first, at the length of its longest viable prefix; else a text is accepted exactly if it says a mark.
+// The mark that a text says, over a zone source and a calendar source, or why it says none. A text is accepted exactly if it says
+// a mark, and else refused by exactly what is wrong first: before all its form, at the length of its longest viable prefix.
 pub fn read_mark<Z: ZoneSource, C: CalendarSource>(
     zones: &Z,
     calendars: &C,
@@ -83,6 +84,8 @@ pub fn read_mark<Z: ZoneSource, C: CalendarSource>(
     ensures form { FormTold text.now result }
     ensures meaning { IfOk result (Says (Z.ZoneSource.zones zones.now) (C.CalendarSource.calendars calendars.now) text.now) }
     ensures told { (m : Mark) → Says (Z.ZoneSource.zones zones.now) (C.CalendarSource.calendars calendars.now) text.now m → result ≡ Ok m }
+    ensures refused { IfErr result (Refused (Z.ZoneSource.zones zones.now) (C.CalendarSource.calendars calendars.now) text.now) }
+    ensures refuses { (fault : AnyFault) → Refused (Z.ZoneSource.zones zones.now) (C.CalendarSource.calendars calendars.now) text.now fault → result ≡ Err fault }
 {
     mark_of(zones, calendars, text)
 }

@@ -1,26 +1,21 @@
 -- The canonical text of a mark reads back.
-use Rattle.std.proofs.Common.{◌≡◌, ℕ, suc, ◌+◌, ◌-◌, ◌*◌, ◌/◌, ◌%◌, ◌<◌, false, cond, ltb, List, [], ◌∷◌, ◌++◌, length, take, Some, None, Ok, Err, codes, Result, sym, refl, ap, ◌∙◌, subst, inl, inr, append_assoc, arith, length-append}
-use Rattle.std.proofs.lemmas.Bool.{cases_eq, cases_Bool, le-ltb}
+use Rattle.std.proofs.Common.{◌≡◌, ℕ, ◌+◌, ◌-◌, ◌/◌, ◌%◌, false, cond, List, [], ◌∷◌, ◌++◌, length, take, Some, None, codes, refl, ap, ◌∙◌, inl, inr, append_assoc, arith, length-append}
+use Rattle.std.proofs.lemmas.Bool.{cases_Bool}
 use Rattle.std.proofs.lemmas.List.{drop_at, take_at}
-use Rattle.reading.specs.declared.Misread.{Misread}
-use Rattle.reading.specs.Reading.{limited}
 use Rattle.names.specs.Names.{Runs}
-use Rattle.writing.specs.Fractions.{point_text, fraction_digits}
+use Rattle.writing.specs.Fractions.{point_text}
 use Rattle.mark_form.specs.declared.draft.Draft.{Draft}
-use Rattle.mark_form.specs.declared.layout.Layout.{Layout}
 use Rattle.mark_form.specs.declared.layout.Part.{Part}
 use Rattle.mark_form.specs.declared.layout.Tags.{Tags}
-use Rattle.mark_form.specs.Drafts.{two_at, four_at, micros_at, offset_at, draft_of, read_layout, read_draft}
-use Rattle.mark_form.specs.Grammar.{Fits, Bang, ZoneText, TagsText, MarkText}
+use Rattle.mark_form.specs.Grammar.{ZoneText, DraftText}
+use Rattle.mark_form.specs.TagLaws.{Bang, TagAt, TagList, tags_of}
 use Rattle.mark_form.specs.Tags.{no_tags}
-use Rattle.mark_form.proofs.Complete.{complete}
 use Rattle.mark_writing.specs.declared.stamp.Stamp.{Stamp}
 use Rattle.mark_writing.specs.Canonical.{two_text, date_text, clock_text, offset_text, zone_text, is_iso8601, calendar_text, mark_text}
-use Rattle.mark_writing.proofs.Lengths.{mark_short}
 use Rattle.mark_writing.proofs.Pieces.{calendar_none, calendar_some}
 use Rattle.mark_trip.specs.RoundTrip.{part_of, part_in, RoundTrip}
-use Rattle.mark_trip.proofs.Numerals.{two_fit, two_value, six_write, six_digits, none_written, some_written, fraction_fits}
-use Rattle.mark_trip.proofs.Offsets.{offset_fits, offset_back, said_of, said_back}
+use Rattle.mark_trip.proofs.Numerals.{two_number, four_number, fraction_fits}
+use Rattle.mark_trip.proofs.Offsets.{offset_fits, said_of, said_back}
 
 -- ── the parts of the text ──
 
@@ -30,25 +25,6 @@ clock s =
     two_text (s.year / 100)
     ++ (two_text (s.year % 100)
     ++ (45 ∷ (two_text s.month ++ (45 ∷ (two_text s.day ++ (84 ∷ (two_text s.hour ++ (58 ∷ (two_text s.minute ++ (58 ∷ two_text s.second))))))))))
-
-clock_fits : (s : Stamp) → Fits (codes "0000-00-00T00:00:00") (clock s)
-clock_fits s =
-    let y = s.year_high in
-    two_fit (s.year / 100) (omega arith)
-    (two_fit (s.year % 100) (omega arith) (
-      refl,
-      two_fit s.month s.month_high (
-        refl,
-        two_fit s.day s.day_high (
-          refl,
-          two_fit s.hour s.hour_high (
-            refl,
-            two_fit s.minute s.minute_high
-                (refl, two_fit s.second s.second_high tt),
-          ),
-        ),
-      ),
-    ))
 
 -- what follows the seconds
 abbrev tail : Stamp → List ℕ
@@ -67,15 +43,25 @@ text_is s =
 abbrev calendar_part : ℕ → List ℕ → Part
 calendar_part at calendar = record { from = at + 6; to = (at + 6) + length calendar }
 
+-- the tag that names a calendar
+abbrev calendar_tag : ℕ → List ℕ → TagAt
+calendar_tag at calendar = record { bracket = at; critical = false; key = codes "u-ca"; value = calendar_part at calendar }
+
+abbrev tag_list : ℕ → List ℕ → List TagAt
+tag_list at calendar = cond (is_iso8601 calendar) [] (calendar_tag at calendar ∷ [])
+
 abbrev tags_at : ℕ → List ℕ → Tags
 tags_at at calendar = cond (is_iso8601 calendar) no_tags (record { refused = None; calendar = Some (calendar_part at calendar); critical = false })
 
-tags_fit : (at : ℕ) (calendar : List ℕ) → Runs calendar → TagsText at no_tags (calendar_text calendar) (tags_at at calendar)
+tags_come : (at : ℕ) (calendar : List ℕ) → tags_at at calendar ≡ tags_of (tag_list at calendar)
+tags_come at calendar = elim (cases_Bool (is_iso8601 calendar)) [ inl e ↦ rw e refl | inr e ↦ rw e refl ]
+
+tags_fit : (at : ℕ) (calendar : List ℕ) → Runs calendar → TagList at (calendar_text calendar) (tag_list at calendar)
 tags_fit at calendar v = elim (cases_Bool (is_iso8601 calendar)) [
-  | inl e ↦ rw (calendar_none calendar e, e) TagsText.none
+  | inl e ↦ rw (calendar_none calendar e, e) TagList.none
   | inr e ↦ rw (calendar_some calendar e, e)
-      (TagsText.tag {at = at} {from = at + 6} {to = (at + 6) + length calendar} (codes "u-ca") Bang.plain (refl, (refl, (refl, (refl, tt)))) v (omega arith) refl
-      TagsText.none)
+      (TagList.tag {at = at} {from = at + 6} {to = (at + 6) + length calendar} (codes "u-ca") Bang.plain (refl, (refl, (refl, (refl, tt)))) v (omega arith) refl
+      TagList.none)
 ]
 
 abbrev sign_at : Stamp → ℕ
@@ -87,10 +73,22 @@ name_at s = sign_at s + (length (offset_text s.offset) + 1)
 abbrev name_end : Stamp → ℕ
 name_end s = name_at s + length s.zone.now
 
-abbrev layout_of : Stamp → Layout
-layout_of s = record { sign = sign_at s; name = record { from = name_at s; to = name_end s }; tags = tags_at (name_end s + 1) s.calendar.now }
+-- what the text says
+abbrev draft_of : Stamp → Draft
+draft_of s = record {
+  year = s.year;
+  month = s.month;
+  day = s.day;
+  hour = s.hour;
+  minute = s.minute;
+  second = s.second;
+  micros = s.micros;
+  offset = Some (said_of (sign_at s) s.offset);
+  name = record { from = name_at s; to = name_end s };
+  tags = tags_at (name_end s + 1) s.calendar.now;
+}
 
-text_fits : (s : Stamp) → ZoneText s.zone.now → Runs s.calendar.now → MarkText (mark_text s) (layout_of s)
+text_fits : (s : Stamp) → ZoneText s.zone.now → Runs s.calendar.now → DraftText (mark_text s) (draft_of s)
 text_fits s z v = record {
   clock = clock s;
   fraction = point_text s.micros;
@@ -100,59 +98,33 @@ text_fits s z v = record {
   name = s.zone.now;
   tags = calendar_text s.calendar.now;
   is = text_is s;
-  clock_text = clock_fits s;
+  clock_text = record {
+    year = two_text (s.year / 100) ++ two_text (s.year % 100);
+    month = two_text s.month;
+    day = two_text s.day;
+    hour = two_text s.hour;
+    minute = two_text s.minute;
+    second = two_text s.second;
+    is = refl;
+    year_text = four_number s.year s.year_high;
+    month_text = two_number s.month s.month_high;
+    day_text = two_number s.day s.day_high;
+    hour_text = two_number s.hour s.hour_high;
+    minute_text = two_number s.minute s.minute_high;
+    second_text = two_number s.second s.second_high;
+  };
   fraction_text = fraction_fits s.micros s.micros_high;
-  offset_text = offset_fits s.offset s.offset_high;
+  offset_text = offset_fits (sign_at s) s.offset s.offset_high;
   bang_text = Bang.plain;
   name_text = z;
-  tags_text = tags_fit (name_end s + 1) s.calendar.now v;
-  sign_place = refl;
   name_from = refl;
   name_to = refl;
+  each = tag_list (name_end s + 1) s.calendar.now;
+  tags_text = tags_fit (name_end s + 1) s.calendar.now v;
+  tags_told = tags_come (name_end s + 1) s.calendar.now;
 }
 
-reads_back : (s : Stamp) → ZoneText s.zone.now → Runs s.calendar.now → read_draft (mark_text s) ≡ Ok (draft_of (mark_text s) (layout_of s))
-reads_back s z v =
-    let t = mark_text s in
-    let l = layout_of s in
-    let short : ltb 128 (length t) ≡ false = le-ltb 128 (length t) (omega (arith, mark_short s)) in
-    let e : read_layout t ≡ Ok l = ap (limited 128 (length t)) (complete t l (text_fits s z v)) ∙ rw short refl in
-    ap (λ (r : Result Layout Misread). elim r as (λ _. Result Draft Misread) [ Ok l ↦ Ok (draft_of t l) | Err m ↦ Err m ]) e
-
--- ── the numbers ──
-
-year_back : (y : ℕ) → y < 10000
-    → (((48 + y / 100 / 10) - 48) * 10 + ((48 + y / 100 % 10) - 48)) * 100 + (((48 + y % 100 / 10) - 48) * 10 + ((48 + y % 100 % 10) - 48)) ≡ y
-year_back y h =
-    let a = two_value (y / 100) (omega arith) in
-    let b = two_value (y % 100) (omega arith) in
-    rw (a, b) (omega arith)
-
-micros_none : (s : Stamp) (t : List ℕ) → s.micros ≡ 0 → micros_at (clock s ++ (point_text s.micros ++ t)) (sign_at s) ≡ s.micros
-micros_none s t e =
-    subst (λ (x : List ℕ). micros_at (clock s ++ (x ++ t)) (19 + length x) ≡ s.micros) (sym (none_written s.micros e)) (sym e)
-
-micros_some : (s : Stamp) (t : List ℕ) → (s.micros ≡ 0 → ⊥) → micros_at (clock s ++ (point_text s.micros ++ t)) (sign_at s) ≡ s.micros
-micros_some s t e =
-    let w = six_write s.micros s.micros_high in
-    let ds = fraction_digits 6 s.micros in
-    let n : 20 + length ds ≡ 19 + suc (length ds) = omega arith in
-    let six = six_digits ds t w.few ∙ w.value in
-    subst (λ (x : List ℕ). micros_at (clock s ++ (x ++ t)) (19 + length x) ≡ s.micros) (sym (some_written s.micros s.micros_high e))
-    (subst (λ k. micros_at (clock s ++ (46 ∷ (ds ++ t))) k ≡ s.micros) n six)
-
-micros_back : (s : Stamp) → micros_at (mark_text s) (sign_at s) ≡ s.micros
-micros_back s =
-    ap (λ (t : List ℕ). micros_at t (sign_at s)) (text_is s)
-    ∙ elim (cases_eq s.micros 0) [ inl e ↦ micros_none s (tail s) e | inr e ↦ micros_some s (tail s) e ]
-
--- ── the offset and the names ──
-
-said : (s : Stamp) → offset_at (mark_text s) (sign_at s) ≡ Some (said_of (sign_at s) s.offset)
-said s =
-    let x = clock s ++ point_text s.micros in
-    let e : mark_text s ≡ x ++ tail s = text_is s ∙ sym (append_assoc (clock s) (point_text s.micros) (tail s)) in
-    ap (λ t. offset_at t (sign_at s)) e ∙ offset_back x (s.zone.now ++ (93 ∷ calendar_text s.calendar.now)) (sign_at s) s.offset (omega arith) s.offset_high
+-- ── the names ──
 
 -- a part of a text
 part_there : (x y z : List ℕ) (i j : ℕ) → length x ≡ i → j ≡ i + length y → part_of (x ++ (y ++ z)) (record { from = i; to = j }) ≡ y
@@ -188,22 +160,20 @@ unrefused at calendar = elim (cases_Bool (is_iso8601 calendar)) [ inl e ↦ rw e
 -- ── the whole ──
 
 pub round_trip : RoundTrip
-unfolding draft_of
 round_trip s z v =
-    let e = text_is s in
     let h = s.offset_high in
     record {
-      draft = draft_of (mark_text s) (layout_of s);
-      reads = reads_back s z v;
-      year = ap (λ (t : List ℕ). four_at t 0) e ∙ year_back s.year s.year_high;
-      month = ap (λ (t : List ℕ). two_at t 5) e ∙ two_value s.month s.month_high;
-      day = ap (λ (t : List ℕ). two_at t 8) e ∙ two_value s.day s.day_high;
-      hour = ap (λ (t : List ℕ). two_at t 11) e ∙ two_value s.hour s.hour_high;
-      minute = ap (λ (t : List ℕ). two_at t 14) e ∙ two_value s.minute s.minute_high;
-      second = ap (λ (t : List ℕ). two_at t 17) e ∙ two_value s.second s.second_high;
-      micros = micros_back s;
+      draft = draft_of s;
+      text = text_fits s z v;
+      year = refl;
+      month = refl;
+      day = refl;
+      hour = refl;
+      minute = refl;
+      second = refl;
+      micros = refl;
       said = said_of (sign_at s) s.offset;
-      is_said = said s;
+      is_said = refl;
       offset = said_back (sign_at s) s.offset;
       hours = omega arith;
       minutes = omega arith;

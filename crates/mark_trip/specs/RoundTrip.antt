@@ -1,11 +1,10 @@
 -- What was written of a mark reads back.
-use Rattle.std.specs.Prelude.{◌≡◌, ℕ, ◌+◌, ◌-◌, ◌*◌, ◌<◌, cond, List, take, drop, ℤ, pos, neg_ℤ, Some, None, Ok, Option}
+use Rattle.std.specs.Prelude.{◌≡◌, ℕ, ◌+◌, ◌-◌, ◌*◌, ◌<◌, cond, List, take, drop, ℤ, pos, neg_ℤ, Some, None, Option}
 use Rattle.names.specs.Names.{Runs}
 use Rattle.mark_form.specs.declared.draft.Draft.{Draft}
 use Rattle.mark_form.specs.declared.draft.Said.{Said}
 use Rattle.mark_form.specs.declared.layout.Part.{Part}
-use Rattle.mark_form.specs.Drafts.{read_draft}
-use Rattle.mark_form.specs.Grammar.{ZoneText}
+use Rattle.mark_form.specs.Grammar.{ZoneText, DraftText}
 use Rattle.mark_writing.specs.declared.stamp.Stamp.{Stamp}
 use Rattle.mark_writing.specs.Canonical.{is_iso8601, mark_text}
 
@@ -23,11 +22,11 @@ abbrev pub part_in : List ℕ → Option Part → Option (List ℕ)
 part_in t None = None
 part_in t (Some part) = Some (part_of t part)
 
--- the canonical text of a stamp reads, and says what the stamp shows: each number, the offset in hours, minutes and seconds that a day
--- and an hour have, the zone's name and, unless it is `iso8601`, the calendar's; no tag of it is refused
+-- the canonical text of a stamp is a mark text, and says what the stamp shows: each number, the offset in hours, minutes and seconds that
+-- a day and an hour have, the zone's name and, unless it is `iso8601`, the calendar's; no tag of it is refused
 pub record ReadsBack (s : Stamp) : Type 0 where
   pub draft : Draft
-  pub reads : read_draft (mark_text s) ≡ Ok draft
+  pub text : DraftText (mark_text s) draft
   pub year : draft.year ≡ s.year
   pub month : draft.month ≡ s.month
   pub day : draft.day ≡ s.day

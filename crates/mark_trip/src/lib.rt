@@ -1,2 +1,2 @@
-// What was written of a mark reads back: the theorem alone, in specs/ and proofs/, which the contract of writing a mark cites.
+// What was written of a mark reads back: the theorem alone, in specs/ and proofs/, by which the contract of writing a mark is proved.
 #![tactic(auto)]

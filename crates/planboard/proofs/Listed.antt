@@ -62,7 +62,7 @@ module _ (src : Sources) where
         subst (λ (o : Option Mark). PutsOne (SlotText src st k o) (100 * one_if o) before after) (sym e)
         (record {
           text = decimal k ++ (32 ∷ (t ++ (10 ∷ [])));
-          is = record { mark = m; held = e; text = t; canonical = x.canonical; is = refl };
+          is = record { mark = m; held = e; text = t; canonical = x; is = refl };
           short = omega (arith, length-append (decimal k) (32 ∷ (t ++ (10 ∷ []))), length-append t (10 ∷ []), d, x.short);
           put = p;
         })

@@ -3,18 +3,11 @@ use Rattle.std.proofs.Common.{◌≡◌, ℕ, ◌+◌, ◌≤◌, Bool, true, fa
 use Rattle.std.proofs.lemmas.List.{drop_all}
 use Rattle.timebase.specs.declared.fault.Fault.{Fault}
 use Rattle.local_times.specs.Chains.{◌>>=◌}
-use Rattle.local_times.proofs.Results.{err_ok}
 use Rattle.board_law.specs.Boards.{Sources, State, Call, after, or_same, made, run, accepted}
-use Rattle.board_law.specs.Texts.{Writes, Overwrote, AllWrote}
+use Rattle.board_law.specs.Texts.{Overwrote, AllWrote}
 use Rattle.board_law.specs.Texts.AllWrote.{none, one_more}
 use Rattle.planboard.specs.declared.call.Call.{Call as Given}
 use Rattle.planboard.specs.Coded.{call_of, calls_of}
-use Rattle.planboard.proofs.Wrotes.{refused_same}
-
--- what follows a check is accepted where the check is
-pub accepts_as : {A : Type 0} (r : Result A Fault) (left : A → State) → is_ok r ≡ is_ok (r >>= λ a. Ok (left a))
-accepts_as (Ok a) left = refl
-accepts_as (Err e) left = refl
 
 -- what alters nothing leaves the state
 pub same_left : {A : Type 0} (r : Result A Fault) (st : State) → st ≡ or_same st (r >>= λ _. Ok st)
@@ -22,14 +15,6 @@ same_left (Ok a) st = refl
 same_left (Err e) st = refl
 
 module _ (src : Sources) where
-  -- a call that writes no text leaves the buffer
-  pub wrote_nothing : (st : State) (call : Call) → Writes src st call [] → (buffer : List ℕ) → Overwrote src st call buffer buffer
-  wrote_nothing st call w buffer = by (after src st call) refl
-    where
-      by : (r : Result State Fault) → after src st call ≡ r → Overwrote src st call buffer buffer
-      by (Ok next) e = (Ok 0, record { accepted = λ n f. ([], w, refl, refl); refused = λ x f. err_ok (sym f ∙ e) })
-      by (Err x) e = (Err x, record { accepted = λ n f. err_ok (sym e ∙ f); refused = λ y f. (ap Err (refused_same e f), refl) })
-
   -- so many calls of a list are made, and what is left leads from here to where all lead from the start
   pub record Going (start : State) (first : List ℕ) (calls : List Given) (st : State) (out : List ℕ) (index n : ℕ) : Type 0 where
     pub count : n + accepted src st (calls_of (length first) (drop index calls)) ≡ accepted src start (calls_of (length first) calls)

@@ -1,3 +1,4 @@
+pub mod Answers
 pub mod Coded
 pub mod Lists
 pub mod View

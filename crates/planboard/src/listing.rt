@@ -1,6 +1,8 @@
 // Listing the marks.
 ghost use Rattle.std.specs.Prelude.{◌≡◌, ◌≤◌, is_some, length};
 ghost use Rattle.board_law.specs.Boards.{mark_slots, marks_there, kept, list_marks, is_there as is_held, There};
+ghost use Rattle.board_law.specs.Judging.{Judged};
+ghost use Rattle.board_law.specs.Meanings.{ListAnswers};
 ghost use Rattle.board_law.specs.Texts.{Wrote};
 ghost use Rattle.shelf.specs.Slots.{slot_at};
 ghost use Rattle.planboard.specs.Lists.{ListPut, LinePut, MarkPut};
@@ -79,7 +81,9 @@ impl<'a, Z: ZoneSource, C: CalendarSource> Board<'a, Z, C> {
 
     // Lists the marks at the start of the buffer, a line `N TEXT` for each that is there, and answers the list's length.
     pub fn list(&self, out: &mut [u8]) -> Result<usize, Fault>
-        ensures { Wrote (sources Z.ZoneSource.zones C.CalendarSource.calendars self.now) (view self.now) (list_marks (length out.old)) out.old result out.new }
+        ensures wrote { Wrote (sources Z.ZoneSource.zones C.CalendarSource.calendars self.now) (view self.now) (list_marks (length out.old)) out.old result out.new }
+        ensures judged { Judged (sources Z.ZoneSource.zones C.CalendarSource.calendars self.now) (view self.now) (list_marks (length out.old)) result }
+        ensures means { ListAnswers (sources Z.ZoneSource.zones C.CalendarSource.calendars self.now) (view self.now) out.old result out.new }
     {
         roomy(LIST_ROOM * self.count_marks(), out.len())?;
         let mut writer = Writer { out, at: 0 };

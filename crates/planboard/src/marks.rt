@@ -1,7 +1,10 @@
 // The calls that put marks into slots and take them out.
 ghost use Rattle.std.specs.Prelude.{◌≡◌, Some, None, IfOk};
-ghost use Rattle.board_law.specs.Boards.{placed, lifted, carried, rezoned, recalendared, place, lift, carry, rezone, recalendar, made, There};
+ghost use Rattle.board_law.specs.Boards.{placed, lifted, carried, rezoned, recalendared, place, lift, carry, rezone, recalendar, made, put_mark, There};
+ghost use Rattle.board_law.specs.Judging.{Judged};
 ghost use Rattle.board_law.specs.Leaves.{MarkLeft};
+ghost use Rattle.board_law.specs.Meanings.{PlaceAnswers, LiftAnswers, CarryAnswers, RezoneAnswers, RecalendarAnswers};
+ghost use Rattle.board_law.specs.Runs.{LeadsTrue};
 ghost use Rattle.planboard.specs.View.{view, sources, Same};
 
 use crate::board::Board;
@@ -13,6 +16,17 @@ use timebase::fault::Fault;
 use zone::source::ZoneSource;
 
 impl<'a, Z: ZoneSource, C: CalendarSource> Board<'a, Z, C> {
+    // Gives a slot a mark, or empties it: the one way to alter a mark.
+    fn store(&mut self, slot: usize, held: Option<Mark>)
+        ensures state { view self.new ≡ put_mark (view self.old) slot held }
+        ensures same { Same self.old self.new }
+    {
+        let _ = match held {
+            Some(mark) => self.marks.put(slot, mark),
+            None => self.marks.clear(slot),
+        };
+    }
+
     // The mark that a text says for a slot.
     fn mark_said(&self, slot: usize, text: &[u8]) -> Result<Mark, Fault>
         ensures { result ≡ placed (sources Z.ZoneSource.zones C.CalendarSource.calendars self.now) (view self.now) slot text.now }
@@ -27,10 +41,12 @@ impl<'a, Z: ZoneSource, C: CalendarSource> Board<'a, Z, C> {
         ensures there { IfOk result (There (sources Z.ZoneSource.zones C.CalendarSource.calendars self.old)) }
         ensures state { view self.new ≡ made (sources Z.ZoneSource.zones C.CalendarSource.calendars self.old) (view self.old) (place slot text.now) }
         ensures law { MarkLeft (view self.old) slot Some result (view self.new) }
+        ensures judged { Judged (sources Z.ZoneSource.zones C.CalendarSource.calendars self.old) (view self.old) (place slot text.now) result }
+        ensures means { PlaceAnswers (sources Z.ZoneSource.zones C.CalendarSource.calendars self.old) (view self.old) slot text.now result }
         ensures same { Same self.old self.new }
     {
         let mark = self.mark_said(slot, text)?;
-        let _ = self.marks.put(slot, mark);
+        self.store(slot, Some(mark));
         Ok(mark)
     }
 
@@ -45,12 +61,15 @@ impl<'a, Z: ZoneSource, C: CalendarSource> Board<'a, Z, C> {
     // Lifts the mark from a slot, which is empty then, and answers it.
     pub fn lift(&mut self, slot: usize) -> Result<Mark, Fault>
         ensures answer { result ≡ lifted (sources Z.ZoneSource.zones C.CalendarSource.calendars self.old) (view self.old) slot }
+        ensures there { IfOk result (There (sources Z.ZoneSource.zones C.CalendarSource.calendars self.old)) }
         ensures state { view self.new ≡ made (sources Z.ZoneSource.zones C.CalendarSource.calendars self.old) (view self.old) (lift slot) }
         ensures law { MarkLeft (view self.old) slot (λ _. None) result (view self.new) }
+        ensures judged { Judged (sources Z.ZoneSource.zones C.CalendarSource.calendars self.old) (view self.old) (lift slot) result }
+        ensures means { LiftAnswers (sources Z.ZoneSource.zones C.CalendarSource.calendars self.old) (view self.old) slot result }
         ensures same { Same self.old self.new }
     {
         let mark = self.mark_to_lift(slot)?;
-        let _ = self.marks.clear(slot);
+        self.store(slot, None);
         Ok(mark)
     }
 
@@ -67,16 +86,20 @@ impl<'a, Z: ZoneSource, C: CalendarSource> Board<'a, Z, C> {
         Ok(Mark { instant, ..mark })
     }
 
-    // Carries the mark in one slot by the span in another into a target slot, in the mark's own zone and calendar, and answers it.
+    // Carries the mark in one slot by the span in another into a target slot, in the mark's own zone and calendar, and answers it. By
+    // a span that a call measured, while it and its two marks stand in their slots, it arrives at the second's instant.
     pub fn carry(&mut self, first: usize, span: usize, target: usize) -> Result<Mark, Fault>
         ensures answer { result ≡ carried (sources Z.ZoneSource.zones C.CalendarSource.calendars self.old) (view self.old) first span target }
         ensures there { IfOk result (There (sources Z.ZoneSource.zones C.CalendarSource.calendars self.old)) }
         ensures state { view self.new ≡ made (sources Z.ZoneSource.zones C.CalendarSource.calendars self.old) (view self.old) (carry first span target) }
         ensures law { MarkLeft (view self.old) target Some result (view self.new) }
+        ensures leads { LeadsTrue (sources Z.ZoneSource.zones C.CalendarSource.calendars self.old) (view self.old) first span target result }
+        ensures judged { Judged (sources Z.ZoneSource.zones C.CalendarSource.calendars self.old) (view self.old) (carry first span target) result }
+        ensures means { CarryAnswers (sources Z.ZoneSource.zones C.CalendarSource.calendars self.old) (view self.old) first span target result }
         ensures same { Same self.old self.new }
     {
         let mark = self.mark_carried(first, span, target)?;
-        let _ = self.marks.put(target, mark);
+        self.store(target, Some(mark));
         Ok(mark)
     }
 
@@ -101,10 +124,12 @@ impl<'a, Z: ZoneSource, C: CalendarSource> Board<'a, Z, C> {
         ensures there { IfOk result (There (sources Z.ZoneSource.zones C.CalendarSource.calendars self.old)) }
         ensures state { view self.new ≡ made (sources Z.ZoneSource.zones C.CalendarSource.calendars self.old) (view self.old) (rezone slot name.now) }
         ensures law { MarkLeft (view self.old) slot Some result (view self.new) }
+        ensures judged { Judged (sources Z.ZoneSource.zones C.CalendarSource.calendars self.old) (view self.old) (rezone slot name.now) result }
+        ensures means { RezoneAnswers (sources Z.ZoneSource.zones C.CalendarSource.calendars self.old) (view self.old) slot name.now result }
         ensures same { Same self.old self.new }
     {
         let mark = self.mark_rezoned(slot, name)?;
-        let _ = self.marks.put(slot, mark);
+        self.store(slot, Some(mark));
         Ok(mark)
     }
 
@@ -127,10 +152,12 @@ impl<'a, Z: ZoneSource, C: CalendarSource> Board<'a, Z, C> {
         ensures there { IfOk result (There (sources Z.ZoneSource.zones C.CalendarSource.calendars self.old)) }
         ensures state { view self.new ≡ made (sources Z.ZoneSource.zones C.CalendarSource.calendars self.old) (view self.old) (recalendar slot name.now) }
         ensures law { MarkLeft (view self.old) slot Some result (view self.new) }
+        ensures judged { Judged (sources Z.ZoneSource.zones C.CalendarSource.calendars self.old) (view self.old) (recalendar slot name.now) result }
+        ensures means { RecalendarAnswers (sources Z.ZoneSource.zones C.CalendarSource.calendars self.old) (view self.old) slot name.now result }
         ensures same { Same self.old self.new }
     {
         let mark = self.mark_recalendared(slot, name)?;
-        let _ = self.marks.put(slot, mark);
+        self.store(slot, Some(mark));
         Ok(mark)
     }
 }

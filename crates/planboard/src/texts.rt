@@ -1,6 +1,8 @@
 // The calls that write texts into a buffer.
 ghost use Rattle.std.specs.Prelude.{◌≡◌, length};
 ghost use Rattle.board_law.specs.Boards.{mark_written, span_written, write_mark, write_span};
+ghost use Rattle.board_law.specs.Judging.{Judged};
+ghost use Rattle.board_law.specs.Meanings.{WriteMarkAnswers, WriteSpanAnswers};
 ghost use Rattle.board_law.specs.Texts.{Wrote};
 ghost use Rattle.planboard.specs.View.{view, sources};
 
@@ -27,7 +29,9 @@ impl<'a, Z: ZoneSource, C: CalendarSource> Board<'a, Z, C> {
 
     // Writes the canonical text of the mark in a slot at the start of the buffer, and answers its length.
     pub fn write_mark(&self, slot: usize, out: &mut [u8]) -> Result<usize, Fault>
-        ensures { Wrote (sources Z.ZoneSource.zones C.CalendarSource.calendars self.now) (view self.now) (write_mark slot (length out.old)) out.old result out.new }
+        ensures wrote { Wrote (sources Z.ZoneSource.zones C.CalendarSource.calendars self.now) (view self.now) (write_mark slot (length out.old)) out.old result out.new }
+        ensures judged { Judged (sources Z.ZoneSource.zones C.CalendarSource.calendars self.now) (view self.now) (write_mark slot (length out.old)) result }
+        ensures means { WriteMarkAnswers (sources Z.ZoneSource.zones C.CalendarSource.calendars self.now) (view self.now) slot out.old result out.new }
     {
         let mark = self.mark_to_write(slot, out.len())?;
         write_mark(self.zones, self.calendars, &mark, out)
@@ -45,7 +49,9 @@ impl<'a, Z: ZoneSource, C: CalendarSource> Board<'a, Z, C> {
 
     // Writes the canonical text of the span in a slot at the start of the buffer, and answers its length.
     pub fn write_span(&self, slot: usize, out: &mut [u8]) -> Result<usize, Fault>
-        ensures { Wrote (sources Z.ZoneSource.zones C.CalendarSource.calendars self.now) (view self.now) (write_span slot (length out.old)) out.old result out.new }
+        ensures wrote { Wrote (sources Z.ZoneSource.zones C.CalendarSource.calendars self.now) (view self.now) (write_span slot (length out.old)) out.old result out.new }
+        ensures judged { Judged (sources Z.ZoneSource.zones C.CalendarSource.calendars self.now) (view self.now) (write_span slot (length out.old)) result }
+        ensures means { WriteSpanAnswers (sources Z.ZoneSource.zones C.CalendarSource.calendars self.now) (view self.now) slot out.old result out.new }
     {
         let span = self.span_to_write(slot, out.len())?;
         write_span(&span, out)

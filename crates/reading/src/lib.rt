@@ -45,10 +45,14 @@ pub fn read<S: Scan>(start: S, text: &[u8]) -> Result<S::Value, Misread>
     ensures { result ≡ read_on S.Scan.stepped S.Scan.ended start 0 text.now }
 {
     let mut state = start;
-    for (at, byte) in text.iter().enumerate() {
-        state = state.step(at, *byte).ok_or(Misread { at })?;
+    let mut left = text;
+    let mut at = 0;
+    while let [first, rest @ ..] = left {
+        state = state.step(at, *first).ok_or(Misread { at })?;
+        left = rest;
+        at += 1;
     }
-    state.end().ok_or(Misread { at: text.len() })
+    state.end().ok_or(Misread { at })
 }
 
 // What reading a text of that length answers under a limit on the length.

@@ -1,3 +1,4 @@
 pub mod Cuts
+pub mod Forms
 pub mod Rooms
 pub mod Runs

@@ -53,14 +53,15 @@ module _ (src : Sources) where
 list_only : {line : List ℕ} → IsLine line Listed → line ≡ codes "list"
 list_only list = refl
 
-other_room : (slots : ℕ) (form : Line) → (form ≡ Listed → ⊥) → form_room slots form ≤ 100
-other_room slots (Marked slot text) n = omega arith
-other_room slots (Lift slot) n = omega arith
-other_room slots (Span slot text) n = omega arith
-other_room slots (Between first second unit span) n = omega arith
-other_room slots (Carry first span target) n = omega arith
-other_room slots (Zone slot name) n = omega arith
-other_room slots (Calendar slot name) n = omega arith
+-- a line that says another call has the room of one answer
+pub other_room : (slots : ℕ) (form : Line) → (form ≡ Listed → ⊥) → form_room slots form ≡ 100
+other_room slots (Marked slot text) n = refl
+other_room slots (Lift slot) n = refl
+other_room slots (Span slot text) n = refl
+other_room slots (Between first second unit span) n = refl
+other_room slots (Carry first span target) n = refl
+other_room slots (Zone slot name) n = refl
+other_room slots (Calendar slot name) n = refl
 other_room slots Listed n = absurd (n refl)
 
 -- a line in form has the room of its form
@@ -77,7 +78,9 @@ form_fits slots line form e = by (bytes_eq line (codes "list")) refl
         let listed : form ≡ Listed = cc in
         let n = ap (form_room slots) listed in
         omega (arith, n)
-    by false f = other_room slots form (λ l. both_ways (bytes_eq line (codes "list")) f ((bytes_eq-Decides line (codes "list")).1 (list_only (subst (IsLine line) l said))))
+    by false f =
+        let r = other_room slots form (λ l. both_ways (bytes_eq line (codes "list")) f ((bytes_eq-Decides line (codes "list")).1 (list_only (subst (IsLine line) l said)))) in
+        omega (arith, r)
 
 -- ── all lines ──
 

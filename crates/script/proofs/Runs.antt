@@ -86,7 +86,7 @@ module _ (src : Sources) where
       (subst (λ (v : List ℕ). Output src start script v) (append-nil g.done) (g.text [] (subst (λ (ls : List (List ℕ)). Output src st ls []) (sym end) (none st)))) in
       let b : ltb (length room) (room_of slots (script_lines input)) ≡ false = le-ltb (length room) (room_of slots (script_lines input)) enough in
       record {
-        answers = λ buffer e. record { refused = λ h. absurd (omega (arith, h, enough)); accepted = λ h. (g.done, told, ap Ok all.0, e ∙ all.1) };
+        answers = λ buffer e. record { small = λ h. absurd (omega (arith, h, enough)); roomy = λ h. (g.done, told, ap Ok all.0, e ∙ all.1) };
         state =
             sym (ap (λ (ls : List (List ℕ)). run src st (calls_of ls)) end) ∙ g.state ∙ ap (λ (ls : List (List ℕ)). run src start (calls_of ls)) is
             ∙ sym (ap (λ (t : Bool). run src start (cond t [] (calls_of (script_lines input)))) b);

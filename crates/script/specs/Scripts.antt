@@ -1,19 +1,21 @@
 -- A whole script: its lines, the call that each says, the answer to each, and what the board holds after it.
-use Rattle.std.specs.Prelude.{◌≡◌, ℕ, ◌+◌, ◌*◌, ◌<◌, ◌≤◌, cond, List, [], ◌∷◌, ◌++◌, length, take, drop, Ok, Err, codes, decimal, Result, ◌==◌, nat_lt}
+use Rattle.std.specs.Prelude.{◌≡◌, ℕ, ◌+◌, ◌*◌, cond, List, [], ◌∷◌, ◌++◌, length, take, drop, Ok, Err, codes, decimal, Result, ◌==◌, nat_lt}
 use Rattle.std.specs.Str.{bytes_eq}
 use Rattle.timebase.specs.declared.fault.Fault.{Fault}
-use Rattle.timebase.specs.declared.fault.Fault.TheVariants.{Unreadable, BufferSmall}
+use Rattle.timebase.specs.declared.fault.Fault.TheVariants.{Unreadable}
 use Rattle.timebase.specs.declared.fault.Told.{Told}
-use Rattle.timebase.specs.declared.span.Span.{Span as AnySpan}
 use Rattle.timebase.specs.Faults.{told}
 use Rattle.span_text.specs.Canonical.{span_text}
-use Rattle.mark_text.specs.declared.mark.Mark.{Mark as AnyMark}
-use Rattle.mark_text.specs.Shown.{Canonical}
+use Rattle.mark_text.specs.Shown.{TextOf}
 use Rattle.line_form.specs.declared.line.Line.{Line}
 use Rattle.line_form.specs.declared.line.Line.TheVariants.{Mark, Lift, Span, Between, Carry, Zone, Calendar, List as Listed}
 use Rattle.line_form.specs.Scanning.{read_line}
-use Rattle.board_law.specs.Boards.{Sources, State, Call, place, lift, enter, measure, carry, rezone, recalendar, list_marks, placed, lifted, entered, measured, carried, rezoned, recalendared, made}
+use Rattle.board_law.specs.Boards.{Sources, State, Call, place, lift, enter, measure, carry, rezone, recalendar, list_marks, made}
+use Rattle.board_law.specs.Meanings.{WrittenTo}
 use Rattle.board_law.specs.Texts.{Listing}
+use Rattle.planboard.specs.declared.call.Answer.{Answer as CallAnswer}
+use Rattle.planboard.specs.declared.call.Answer.TheVariants.{Mark as Standing, Lifted, Span as Measured, Written}
+use Rattle.planboard.specs.Answers.{answer_of}
 
 -- ── lines ──
 
@@ -69,31 +71,20 @@ refusal_text t = codes "no" ++ (word_text t.number ++ (word_text t.place ++ (wor
 abbrev pub refusal_line : Fault → List ℕ
 refusal_line fault = on_line (refusal_text (told fault))
 
--- the canonical text of the span that a call answers
-abbrev pub SpanTold : Result AnySpan Fault → List ℕ → Type 0
-SpanTold (Ok s) t = t ≡ on_line (span_text s)
-SpanTold (Err fault) t = t ≡ refusal_line fault
-
-abbrev pub LiftTold : Result AnyMark Fault → List ℕ → Type 0
-LiftTold (Ok m) t = t ≡ on_line (codes "lifted")
-LiftTold (Err fault) t = t ≡ refusal_line fault
-
 module _ (src : Sources) where
-  -- the canonical text of the mark that a call answers
-  abbrev pub MarkTold : Result AnyMark Fault → List ℕ → Type 0
-  MarkTold (Ok m) t = (u : List ℕ) × Canonical src.zones src.calendars m u × (t ≡ on_line u)
-  MarkTold (Err fault) t = t ≡ refusal_line fault
+  -- the line that tells an answer: the canonical text of the mark or of the span that is left in a slot, `lifted`, or the refusal; a call
+  -- that writes to a buffer, which no line says, would be told by none
+  abbrev pub AnswerTold : Result CallAnswer Fault → List ℕ → Type 0
+  AnswerTold (Ok (Standing m)) t = (u : List ℕ) × TextOf src.zones src.calendars m u × (t ≡ on_line u)
+  AnswerTold (Ok (Lifted m)) t = t ≡ on_line (codes "lifted")
+  AnswerTold (Ok (Measured s)) t = t ≡ on_line (span_text s)
+  AnswerTold (Ok (Written length)) t = t ≡ []
+  AnswerTold (Err fault) t = t ≡ refusal_line fault
 
-  -- the answer to a line in form: of the mark or the span that is written, `lifted`, or the list of the marks
+  -- the answer to a line in form: the list of the marks, or the line that tells what its call answers
   abbrev pub FormAnswer : State → List ℕ → Line → List ℕ → Type 0
-  FormAnswer st line (Mark slot text) t = MarkTold (placed src st slot (drop text line)) t
-  FormAnswer st line (Lift slot) t = LiftTold (lifted src st slot) t
-  FormAnswer st line (Span slot text) t = SpanTold (entered src st slot (drop text line)) t
-  FormAnswer st line (Between first second unit span) t = SpanTold (measured src st first second unit span) t
-  FormAnswer st line (Carry first span target) t = MarkTold (carried src st first span target) t
-  FormAnswer st line (Zone slot name) t = MarkTold (rezoned src st slot (drop name line)) t
-  FormAnswer st line (Calendar slot name) t = MarkTold (recalendared src st slot (drop name line)) t
   FormAnswer st line Listed t = Listing src st t
+  FormAnswer st line form t = AnswerTold (answer_of src st (form_call line form) (Ok 0)) t
 
   abbrev pub Answer : State → List ℕ → List ℕ → Type 0
   Answer st line t = elim (read_line line) [ Ok form ↦ FormAnswer st line form t | Err m ↦ t ≡ refusal_line (Unreadable m.at) ]
@@ -126,10 +117,8 @@ room_of slots (line ∷ lines) = line_room slots line + room_of slots lines
 -- ── the whole call ──
 
 -- a buffer without the room is refused; else it holds the answers, and past them what it held before
-pub record Ran (src : Sources) (st : State) (slots : ℕ) (input before : List ℕ) (answer : Result ℕ Fault) (buffer : List ℕ) : Type 0 where
-  pub refused : length before < room_of slots (script_lines input) → (answer ≡ Err BufferSmall) × (buffer ≡ before)
-  pub accepted : room_of slots (script_lines input) ≤ length before →
-      (t : List ℕ) × Output src st (script_lines input) t × (answer ≡ Ok (length t)) × (buffer ≡ t ++ drop (length t) before)
+abbrev pub Ran : Sources → State → ℕ → List ℕ → List ℕ → Result ℕ Fault → List ℕ → Type 0
+Ran src st slots input = WrittenTo (Output src st (script_lines input)) (room_of slots (script_lines input))
 
 -- the calls that are made: those of the script, and none where it is refused
 abbrev pub script_calls : ℕ → List ℕ → List ℕ → List Call

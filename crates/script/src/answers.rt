@@ -1,19 +1,19 @@
 // The answer to a line.
-ghost use Rattle.std.specs.Prelude.{◌≡◌, ◌≤◌, drop, IfOk};
-ghost use Rattle.board_law.specs.Boards.{made, mark_slots, There};
+ghost use Rattle.std.specs.Prelude.{◌≡◌, ◌≢◌, ◌≤◌, drop, Ok, IfOk, MatchOption};
+ghost use Rattle.board_law.specs.Boards.{made, mark_slots};
+ghost use Rattle.planboard.specs.Answers.{AnswerThere};
+ghost use Rattle.planboard.specs.Coded.{call_of};
 ghost use Rattle.planboard.specs.Lists.{PutsOne};
 ghost use Rattle.planboard.specs.View.{view, sources, Same};
-ghost use Rattle.script.specs.Scripts.{word_text, refusal_text, on_line, form_call, line_after, line_room, form_room, MarkTold, SpanTold, LiftTold, FormAnswer, Answer};
-ghost use Rattle.timebase.specs.Spans.{Enterable};
+ghost use Rattle.script.specs.Scripts.{word_text, refusal_text, on_line, form_call, line_after, line_room, form_room, AnswerTold, FormAnswer, Answer as LineAnswer};
 ghost use Rattle.writing.specs.Putting.{Puts};
 
 use calendar::source::CalendarSource;
 use line_form::line::{Line, read_line};
-use mark_text::mark::Mark;
 use planboard::board::Board;
+use planboard::call::{Answer, Call};
 use span_text::write::put_span;
 use timebase::fault::{Fault, Told};
-use timebase::span::Span;
 use writing::Writer;
 use zone::source::ZoneSource;
 
@@ -61,46 +61,90 @@ fn put_refusal(writer: &mut Writer, told: Told)
     writer.put_byte(b'\n');
 }
 
-// Puts the line that answers a call by a span.
-fn put_span_answer(writer: &mut Writer, answer: Result<Span, Fault>)
-    requires { IfOk answer Enterable }
-    ensures { PutsOne (SpanTold answer) 100 writer.old writer.new }
-{
-    match answer {
-        Ok(span) => {
-            put_span(writer, &span);
-            writer.put_byte(b'\n');
-        }
-        Err(fault) => put_refusal(writer, fault.told()),
-    }
-}
-
-// Puts the line that answers a call by a mark.
-fn put_mark_answer<Z: ZoneSource, C: CalendarSource>(
+// Puts the line that tells what an accepted call answers.
+fn put_accepted<Z: ZoneSource, C: CalendarSource>(
     writer: &mut Writer,
     board: &Board<'_, Z, C>,
-    answer: Result<Mark, Fault>,
+    answer: Answer,
 )
-    requires { IfOk answer (There (sources Z.ZoneSource.zones C.CalendarSource.calendars board.now)) }
-    ensures { PutsOne (MarkTold (sources Z.ZoneSource.zones C.CalendarSource.calendars board.now) answer) 100 writer.old writer.new }
+    requires { AnswerThere (sources Z.ZoneSource.zones C.CalendarSource.calendars board.now) answer }
+    ensures { PutsOne (AnswerTold (sources Z.ZoneSource.zones C.CalendarSource.calendars board.now) (Ok answer)) 100 writer.old writer.new }
 {
     match answer {
-        Ok(mark) => {
+        Answer::Mark(mark) => {
             let _ = board.put_mark(writer, &mark);
             writer.put_byte(b'\n');
         }
+        Answer::Lifted(_) => writer.put_bytes(b"lifted\n"),
+        Answer::Span(span) => {
+            put_span(writer, &span);
+            writer.put_byte(b'\n');
+        }
+        Answer::Written(_) => {}
+    }
+}
+
+// Puts the line that tells what a call answers.
+fn put_answer<Z: ZoneSource, C: CalendarSource>(
+    writer: &mut Writer,
+    board: &Board<'_, Z, C>,
+    answer: Result<Answer, Fault>,
+)
+    requires { IfOk answer (AnswerThere (sources Z.ZoneSource.zones C.CalendarSource.calendars board.now)) }
+    ensures { PutsOne (AnswerTold (sources Z.ZoneSource.zones C.CalendarSource.calendars board.now) answer) 100 writer.old writer.new }
+{
+    match answer {
+        Ok(answer) => put_accepted(writer, board, answer),
         Err(fault) => put_refusal(writer, fault.told()),
     }
 }
 
-// Puts the line that answers lifting.
-fn put_lift_answer(writer: &mut Writer, answer: Result<Mark, Fault>)
-    ensures { PutsOne (LiftTold answer) 100 writer.old writer.new }
+// The call that a line in form says; none for `list`, which is put where the answers stand.
+fn call_said(line: &[u8], form: Line) -> Option<Call<'_>>
+    ensures { MatchOption result (form ≡ Line.List) (λ call. (call_of 0 call ≡ form_call line.now form) × (form ≢ Line.List)) }
 {
-    match answer {
-        Ok(_) => writer.put_bytes(b"lifted\n"),
-        Err(fault) => put_refusal(writer, fault.told()),
-    }
+    Some(match form {
+        Line::Mark { slot, text } => Call::Place {
+            slot: usize::from(slot),
+            text: from_place(line, text),
+        },
+        Line::Lift { slot } => Call::Lift {
+            slot: usize::from(slot),
+        },
+        Line::Span { slot, text } => Call::Enter {
+            slot: usize::from(slot),
+            text: from_place(line, text),
+        },
+        Line::Between {
+            first,
+            second,
+            unit,
+            span,
+        } => Call::Measure {
+            first: usize::from(first),
+            second: usize::from(second),
+            unit,
+            span: usize::from(span),
+        },
+        Line::Carry {
+            first,
+            span,
+            target,
+        } => Call::Carry {
+            first: usize::from(first),
+            span: usize::from(span),
+            target: usize::from(target),
+        },
+        Line::Zone { slot, name } => Call::Rezone {
+            slot: usize::from(slot),
+            name: from_place(line, name),
+        },
+        Line::Calendar { slot, name } => Call::Recalendar {
+            slot: usize::from(slot),
+            name: from_place(line, name),
+        },
+        Line::List => return None,
+    })
 }
 
 // Makes the call of a line in form, and puts the answer.
@@ -114,49 +158,12 @@ fn answer_form<Z: ZoneSource, C: CalendarSource>(
     ensures state { view board.new ≡ made (sources Z.ZoneSource.zones C.CalendarSource.calendars board.old) (view board.old) (form_call line.now form) }
     ensures same { Same board.old board.new }
 {
-    match form {
-        Line::Mark { slot, text } => {
-            let answer = board.place(usize::from(slot), from_place(line, text));
-            put_mark_answer(writer, board, answer);
+    match call_said(line, form) {
+        Some(call) => {
+            let answer = board.call(&call, &mut []);
+            put_answer(writer, board, answer);
         }
-        Line::Lift { slot } => put_lift_answer(writer, board.lift(usize::from(slot))),
-        Line::Span { slot, text } => {
-            put_span_answer(
-                writer,
-                board.enter(usize::from(slot), from_place(line, text)),
-            );
-        }
-        Line::Between {
-            first,
-            second,
-            unit,
-            span,
-        } => {
-            let answer = board.measure(
-                usize::from(first),
-                usize::from(second),
-                unit,
-                usize::from(span),
-            );
-            put_span_answer(writer, answer);
-        }
-        Line::Carry {
-            first,
-            span,
-            target,
-        } => {
-            let answer = board.carry(usize::from(first), usize::from(span), usize::from(target));
-            put_mark_answer(writer, board, answer);
-        }
-        Line::Zone { slot, name } => {
-            let answer = board.rezone(usize::from(slot), from_place(line, name));
-            put_mark_answer(writer, board, answer);
-        }
-        Line::Calendar { slot, name } => {
-            let answer = board.recalendar(usize::from(slot), from_place(line, name));
-            put_mark_answer(writer, board, answer);
-        }
-        Line::List => board.put_list(writer),
+        None => board.put_list(writer),
     }
 }
 
@@ -166,7 +173,7 @@ pub(crate) fn answer_line<Z: ZoneSource, C: CalendarSource>(
     line: &[u8],
     writer: &mut Writer,
 )
-    ensures put { PutsOne (Answer (sources Z.ZoneSource.zones C.CalendarSource.calendars board.old) (view board.old) line.now) (line_room (mark_slots (view board.old)) line.now) writer.old writer.new }
+    ensures put { PutsOne (LineAnswer (sources Z.ZoneSource.zones C.CalendarSource.calendars board.old) (view board.old) line.now) (line_room (mark_slots (view board.old)) line.now) writer.old writer.new }
     ensures state { view board.new ≡ line_after (sources Z.ZoneSource.zones C.CalendarSource.calendars board.old) (view board.old) line.now }
     ensures same { Same board.old board.new }
 {

@@ -1,7 +1,7 @@
 // Running a whole script.
-ghost use Rattle.std.specs.Prelude.{◌≡◌, ◌≤◌, ◌++◌, List, length, take};
-ghost use Rattle.board_law.specs.Boards.{State, Call, mark_slots, run as run_of};
-ghost use Rattle.board_law.specs.Runs.{RunKeeps, SpansStayTrue};
+ghost use Rattle.std.specs.Prelude.{◌≡◌, ◌≤◌, length, take};
+ghost use Rattle.board_law.specs.Boards.{mark_slots, run as run_of};
+ghost use Rattle.board_law.specs.Runs.{KeepsOn, SpansStayTrue};
 ghost use Rattle.planboard.specs.View.{view, sources, Same};
 ghost use Rattle.script.specs.Scripts.{lines_of, room_of, script_lines, script_calls, Ran};
 
@@ -55,7 +55,7 @@ pub fn run_script<Z: ZoneSource, C: CalendarSource>(
     ensures answers { Ran (sources Z.ZoneSource.zones C.CalendarSource.calendars board.old) (view board.old) (mark_slots (view board.old)) input.now out.old result out.new }
     ensures state { view board.new ≡ run_of (sources Z.ZoneSource.zones C.CalendarSource.calendars board.old) (view board.old) (script_calls (mark_slots (view board.old)) input.now out.old) }
     ensures same { Same board.old board.new }
-    ensures keeps { (start : State) (earlier : List Call) → run_of (sources Z.ZoneSource.zones C.CalendarSource.calendars board.old) start earlier ≡ view board.old → RunKeeps (sources Z.ZoneSource.zones C.CalendarSource.calendars board.old) start (earlier ++ script_calls (mark_slots (view board.old)) input.now out.old) (view board.new) }
+    ensures keeps { KeepsOn (sources Z.ZoneSource.zones C.CalendarSource.calendars board.old) (view board.old) (script_calls (mark_slots (view board.old)) input.now out.old) (view board.new) }
     ensures law { SpansStayTrue (sources Z.ZoneSource.zones C.CalendarSource.calendars board.old) }
 {
     if out.len() < room_for(board, input) {

@@ -51,4 +51,4 @@ spans_are_true zone c zl cl unit a b s e =
     }
 
 pub spans_true_over : (zs : Zones) (cs : Calendars) → ZonesLaws zs → CalendarsLaws cs → SpansTrueOver zs cs
-spans_true_over zs cs zl cl z k hz hk unit a b s e = spans_are_true (zs.value z) (cs.calendar k) (zl.each z) (cl.each k hk) unit a b s e
+spans_true_over zs cs zl cl z k hz hk unit a b s e = spans_are_true (zs.value z) (cs.calendar k) (zl.each z hz) (cl.each k hk) unit a b s e

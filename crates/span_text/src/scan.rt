@@ -106,20 +106,17 @@ impl Fields {
     fn close(self, last: Designator, n: u32, byte: u8) -> Option<Progress>
         ensures { result ≡ closed self last n byte }
     {
-        let (next, fields) = match byte {
-            b'Y' if last < Designator::Years => (Designator::Years, Fields { years: n, ..self }),
-            b'M' if last < Designator::Months => (Designator::Months, Fields { months: n, ..self }),
-            b'W' if last < Designator::Weeks => (Designator::Weeks, Fields { weeks: n, ..self }),
-            b'D' if last < Designator::Days => (Designator::Days, Fields { days: n, ..self }),
-            b'H' if last == Designator::Time => (Designator::Hours, Fields { hours: n, ..self }),
-            b'M' if last == Designator::Time || last == Designator::Hours => (
+        let (next, fields) = match char::from(byte) {
+            'Y' if last < Designator::Years => (Designator::Years, Fields { years: n, ..self }),
+            'M' if last < Designator::Months => (Designator::Months, Fields { months: n, ..self }),
+            'W' if last < Designator::Weeks => (Designator::Weeks, Fields { weeks: n, ..self }),
+            'D' if last < Designator::Days => (Designator::Days, Fields { days: n, ..self }),
+            'H' if last == Designator::Time => (Designator::Hours, Fields { hours: n, ..self }),
+            'M' if last == Designator::Time || last == Designator::Hours => (
                 Designator::Minutes,
                 Fields { minutes: n, ..self },
             ),
-            b'S' if last >= Designator::Days => (
-                Designator::Seconds,
-                Fields { seconds: n, ..self },
-            ),
+            'S' if last >= Designator::Days => (Designator::Seconds, Fields { seconds: n, ..self }),
             _ => return None,
         };
         Some(fields.at(Stage::After(next)))
@@ -129,13 +126,13 @@ impl Fields {
     fn after_designator(self, last: Designator, byte: u8) -> Option<Progress>
         ensures { result ≡ after_designator self last byte }
     {
-        let stage = match byte {
-            b'0'..=b'9' if last != Designator::Days && last < Designator::Seconds => Stage::Number {
+        let stage = match char::from(byte) {
+            '0'..='9' if last != Designator::Days && last < Designator::Seconds => Stage::Number {
                 last,
                 value: u32::from(byte - b'0'),
                 digits: 1,
             },
-            b'T' if last < Designator::Time => Stage::After(Designator::Time),
+            'T' if last < Designator::Time => Stage::After(Designator::Time),
             _ => return None,
         };
         Some(self.at(stage))
@@ -145,13 +142,13 @@ impl Fields {
     fn in_number(self, last: Designator, value: u32, digits: u8, byte: u8) -> Option<Progress>
         ensures { result ≡ in_number self last value digits byte }
     {
-        let stage = match byte {
-            b'0'..=b'9' if digits < 9 && value < 100_000_000 => Stage::Number {
+        let stage = match char::from(byte) {
+            '0'..='9' if digits < 9 && value < 100_000_000 => Stage::Number {
                 last,
                 value: value * 10 + u32::from(byte - b'0'),
                 digits: digits + 1,
             },
-            b'.' if last >= Designator::Days => Stage::Point { seconds: value },
+            '.' if last >= Designator::Days => Stage::Point { seconds: value },
             _ => return self.close(last, value, byte),
         };
         Some(self.at(stage))
@@ -161,8 +158,8 @@ impl Fields {
     fn in_point(self, seconds: u32, byte: u8) -> Option<Progress>
         ensures { result ≡ in_point self seconds byte }
     {
-        match byte {
-            b'0'..=b'9' => Some(self.at(Stage::Fraction {
+        match char::from(byte) {
+            '0'..='9' => Some(self.at(Stage::Fraction {
                 seconds,
                 micros: micros_of_digit(byte - b'0', 0),
                 digits: 1,
@@ -175,13 +172,13 @@ impl Fields {
     fn in_fraction(self, seconds: u32, micros: u32, digits: u8, byte: u8) -> Option<Progress>
         ensures { result ≡ in_fraction self seconds micros digits byte }
     {
-        match byte {
-            b'0'..=b'9' if digits < 6 && micros < 1_000_000 => Some(self.at(Stage::Fraction {
+        match char::from(byte) {
+            '0'..='9' if digits < 6 && micros < 1_000_000 => Some(self.at(Stage::Fraction {
                 seconds,
                 micros: micros + micros_of_digit(byte - b'0', digits),
                 digits: digits + 1,
             })),
-            b'S' => {
+            'S' => {
                 let fields = Fields {
                     seconds,
                     micros,

@@ -7,10 +7,11 @@ use Rattle.years.specs.declared.date.Date.{Date}
 use Rattle.years.specs.declared.rule.Year.{Year}
 use Rattle.years.specs.Dates.{Years, Valid, number, days_in}
 use Rattle.years.specs.Days.{Fitting, InRange, DateAnswer, DayAnswer, Near}
-use Rattle.years.specs.Rules.{IsYear, YearAnswer}
+use Rattle.years.specs.Rules.{year_of, year_in}
 use Rattle.years.specs.Lengths.{first_days, Stands, HasDay, NumberAnswer}
 use Rattle.years.specs.Places.{Lies, Beside, LabelAnswer, PlaceAnswer}
 use Rattle.years.proofs.Numbers.{there, found, start_rises}
+use Rattle.years.proofs.Told.{IsYear, answered, is_year}
 use Rattle.years.proofs.Within.{same_days, stands, none_past}
 
 module _ (ys : Years) (f : Fitting ys) where
@@ -18,28 +19,31 @@ module _ (ys : Years) (f : Fitting ys) where
   none_is d a e h = subst (DayAnswer ys d) (sym e) h
 
   -- a date of no year of the calendar is no day's
-  pub no_year : (d : Date) (z : ℤ) → z ≡ d.year → YearAnswer ys z None → (a : Option ℕ) → a ≡ None → DayAnswer ys d a
+  pub no_year : (d : Date) (z : ℤ) → z ≡ d.year → None ≡ year_in ys z → (a : Option ℕ) → a ≡ None → DayAnswer ys d a
   no_year d z e h a none =
-      none_is d a none (λ n r q. let t = there ys f d n r q in h (subst (λ (x : ℤ). ys.first ≤ℤ x) (sym e) t.low) (subst (λ (x : ℤ). x <ℤ ys.past) (sym e) t.high))
+      none_is d a none (λ n r q. let t = there ys f d n r q in answered ys z None h (subst (λ (x : ℤ). ys.first ≤ℤ x) (sym e) t.low) (subst (λ (x : ℤ). x <ℤ ys.past) (sym e) t.high))
 
   -- nor is one that its year does not have
-  pub no_day : (d : Date) (r : Year) (z : ℤ) → z ≡ d.year → YearAnswer ys z (Some r) → (HasDay r d.month d.day → ⊥) → (a : Option ℕ) → a ≡ None → DayAnswer ys d a
+  pub no_day : (d : Date) (r : Year) (z : ℤ) → z ≡ d.year → Some r ≡ year_in ys z → (HasDay r d.month d.day → ⊥) → (a : Option ℕ) → a ≡ None → DayAnswer ys d a
   no_day d r z e y h a none =
       none_is d a none
       (λ n g q.
       let v = (there ys f d n g q).valid in
-      let is = subst (λ (x : ℤ). IsYear ys x r) e y.2 in
+      let is = subst (λ (x : ℤ). IsYear ys x r) e (is_year ys z r (answered ys z (Some r) y).2) in
       let l = is.lengths d.month v.month_low v.month_high in
       let m = is.months in
       h (record { month_low = v.month_low; month_high = omega arith; day_low = v.day_low; day_high = omega arith }))
 
   -- a date that its year has is the day's that its number tells
-  pub numbers : (d : Date) (r : Year) (z : ℤ) (into : ℕ) → z ≡ d.year → YearAnswer ys z (Some r) → HasDay r d.month d.day →
+  pub numbers : (d : Date) (r : Year) (z : ℤ) (into : ℕ) → z ≡ d.year → Some r ≡ year_in ys z → HasDay r d.month d.day →
       into ≡ first_days r (d.month - 1) + (d.day - 1) → (b : ℤ) → b ≡ r.start → (a : Option ℕ) → NumberAnswer (b +ℤ pos into) a → DayAnswer ys d a
   numbers d r z into e y h i b be a n = told a n
     where
+      got : (ys.first ≤ℤ z) × (z <ℤ ys.past) × (r ≡ year_of ys z)
+      got = answered ys z (Some r) y
+
       is : IsYear ys d.year r
-      is = subst (λ (x : ℤ). IsYear ys x r) e y.2
+      is = subst (λ (x : ℤ). IsYear ys x r) e (is_year ys z r got.2)
 
       valid : Valid ys.shape d
       valid =
@@ -58,7 +62,7 @@ module _ (ys : Years) (f : Fitting ys) where
 
       told : (a : Option ℕ) → NumberAnswer (b +ℤ pos into) a → DayAnswer ys d a
       told (Some n) (g, q) =
-          (g, found ys f d n g (record { valid = valid; low = subst (λ (x : ℤ). ys.first ≤ℤ x) e y.0; high = subst (λ (x : ℤ). x <ℤ ys.past) e y.1; is = sym total ∙ q }))
+          (g, found ys f d n g (record { valid = valid; low = subst (λ (x : ℤ). ys.first ≤ℤ x) e got.0; high = subst (λ (x : ℤ). x <ℤ ys.past) e got.1; is = sym total ∙ q }))
       told None q = λ n g x. q n g (total ∙ (there ys f d n g x).is)
 
 -- what a test of the code tells
@@ -109,9 +113,9 @@ module _ (ys : Years) (f : Fitting ys) where
       let d = k.not_before in
       lies_at n guess (guess +ℤ pos 1) k (omega (arith, ints))
 
-  module _ (n : ℕ) (guess z : ℤ) (r : Year) (k : Beside ys n guess) (g : InRange n) (e : z ≡ guess) (y : YearAnswer ys z (Some r)) where
+  module _ (n : ℕ) (guess z : ℤ) (r : Year) (k : Beside ys n guess) (g : InRange n) (e : z ≡ guess) (y : Some r ≡ year_in ys z) where
     is : IsYear ys guess r
-    is = subst (λ (x : ℤ). IsYear ys x r) e y.2
+    is = subst (λ (x : ℤ). IsYear ys x r) e (is_year ys z r (answered ys z (Some r) y).2)
 
     pub turn_before : (b : Bool) → b ≡ lt_z (pos n) r.start → b ≡ true → Lies ys n (guess -ℤ pos 1)
     turn_before b t u =
@@ -138,27 +142,30 @@ module _ (ys : Years) (f : Fitting ys) where
 
   -- the year that the rule answers for the year of a day
   pub placed : (n : ℕ) (y z : ℤ) → InRange n → z ≡ y → Lies ys n y → (a : Option (ℤ × Year)) → LabelAnswer ys z a → PlaceAnswer ys n a
-  placed n y z g e l (Some (x, r)) (p, a) = (g, subst (Lies ys n) (sym (p ∙ e)) l, subst (λ (v : ℤ). IsYear ys v r) (sym p) a.2)
-  placed n y z g e l None a = let m = subst (Lies ys n) (sym e) l in λ h. a m.from m.upto
+  placed n y z g e l (Some (x, r)) (p, a) = (g, subst (Lies ys n) (sym (p ∙ e)) l, subst (λ (v : ℤ). r ≡ year_of ys v) (sym p) (answered ys z (Some r) a).2)
+  placed n y z g e l None a = let m = subst (Lies ys n) (sym e) l in λ h. answered ys z None a m.from m.upto
 
   -- the rule has every year that may be a day's
-  pub some_near : (n : ℕ) (y z : ℤ) → z ≡ y → Beside ys n y → YearAnswer ys z None → (a : Option (ℤ × Year)) → a ≡ None → PlaceAnswer ys n a
+  pub some_near : (n : ℕ) (y z : ℤ) → z ≡ y → Beside ys n y → None ≡ year_in ys z → (a : Option (ℤ × Year)) → a ≡ None → PlaceAnswer ys n a
   some_near n y z e k h a none =
-      subst (PlaceAnswer ys n) (sym none) (λ r. h (subst (λ (x : ℤ). ys.first ≤ℤ x) (sym e) k.from) (subst (λ (x : ℤ). x <ℤ ys.past) (sym e) k.upto))
+      subst (PlaceAnswer ys n) (sym none) (λ r. answered ys z None h (subst (λ (x : ℤ). ys.first ≤ℤ x) (sym e) k.from) (subst (λ (x : ℤ). x <ℤ ys.past) (sym e) k.upto))
 
-  module _ (n rest : ℕ) (y : ℤ) (r : Year) (g : InRange n) (l : Lies ys n y) (is : IsYear ys y r) (e : r.start +ℤ pos rest ≡ pos n) where
+  module _ (n rest : ℕ) (y : ℤ) (r : Year) (g : InRange n) (l : Lies ys n y) (same : r ≡ year_of ys y) (e : r.start +ℤ pos rest ≡ pos n) where
+    here : IsYear ys y r
+    here = is_year ys y r same
+
     within : rest < days_in ys.shape y (ys.shape.months y)
     within =
         let a = f.adds y l.from l.upto in
-        let st = is.starts in
+        let st = here.starts in
         let h = l.high in
         omega (arith, ints)
 
     -- the date of the day, by its month and day in the year
     pub dated : (m d : ℕ) (z : ℤ) → z ≡ y → Stands r rest m d → DateAnswer ys n (Some (record { year = z; month = m; day = d }))
     dated m d z ze w =
-        let k = stands ys y r is rest m d within w in
-        let st = is.starts in
+        let k = stands ys y r here rest m d within w in
+        let st = here.starts in
         let i = k.is in
         let c : Date = record { year = y; month = m; day = d } in
         let v : Valid ys.shape c = record { month_low = k.month_low; month_high = k.month_high; day_low = k.day_low; day_high = k.day_high } in
@@ -166,4 +173,4 @@ module _ (ys : Years) (f : Fitting ys) where
         subst (λ (x : ℤ). DateAnswer ys n (Some (record { year = x; month = m; day = d }))) (sym ze) (g, q)
 
     pub not_dateless : first_days r 14 ≤ rest → (a : Option Date) → a ≡ None → DateAnswer ys n a
-    not_dateless past a none = absurd (none_past ys y r is rest (f.few y) within past)
+    not_dateless past a none = absurd (none_past ys y r here rest (f.few y) within past)

@@ -2,4 +2,5 @@ pub mod Daily
 pub mod Guesses
 pub mod Numbers
 pub mod Order
+pub mod Told
 pub mod Within

@@ -5,9 +5,9 @@ use Rattle.std.proofs.lemmas.List.Sums.{sum_by_more}
 use Rattle.std.proofs.lemmas.Bool.{cases_lt}
 use Rattle.years.specs.declared.rule.Year.{Year}
 use Rattle.years.specs.Dates.{Years, days_in, MonthDay}
-use Rattle.years.specs.Rules.{IsYear}
 use Rattle.years.specs.Lengths.{alone, first_days, Stands}
 use Rattle.years.proofs.Numbers.{days_step, days_rise}
+use Rattle.years.proofs.Told.{IsYear}
 
 pub one_more : (r : Year) (k : ℕ) → first_days r (k + 1) ≡ first_days r k + get_or r.lengths k 0
 one_more r k = let e : k + 1 - 1 ≡ k = omega arith in simp e at (days_step (alone r) (pos 0) (k + 1) (omega arith))

@@ -7,8 +7,8 @@ pub record Shape : Type 0 where
   pub months : ℤ → ℕ
   pub size : ℤ → ℕ → ℕ
 
--- the years of a calendar: their shape, the day number on which each starts, the first and one past the last, the date of day 1, and
--- the month of a second year that is the twin of a month of a first
+-- the years of a calendar: their shape, the day number on which each starts, the first and one past the last, the date of day 1, the
+-- month of a second year that is the twin of a month of a first, and a guess at the year of a day number
 pub record Years : Type 0 where
   pub shape : Shape
   pub start : ℤ → ℤ
@@ -16,6 +16,7 @@ pub record Years : Type 0 where
   pub past : ℤ
   pub origin : Date
   pub twin : ℤ → ℕ → ℤ → ℕ
+  pub guess : ℕ → ℤ
 
 pub record Valid (s : Shape) (d : Date) : Type 0 where
   pub month_low : 1 ≤ d.month

@@ -63,3 +63,4 @@ pub record YearsLaws (ys : Years) : Type 0 where
   pub fitting : Fitting ys
   pub bounded : Bounded ys
   pub twins : Twins ys
+  pub guessed : (n : ℕ) → InRange n → Near ys n (ys.guess n)

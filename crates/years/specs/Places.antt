@@ -3,7 +3,7 @@ use Rattle.std.specs.Prelude.{◌≡◌, ℕ, ℤ, pos, ◌+ℤ◌, ◌≤ℤ◌
 use Rattle.years.specs.declared.rule.Year.{Year}
 use Rattle.years.specs.Dates.{Years}
 use Rattle.years.specs.Days.{InRange, Near}
-use Rattle.years.specs.Rules.{IsYear, YearAnswer}
+use Rattle.years.specs.Rules.{year_of, year_in}
 
 -- day n lies in year y
 pub record Lies (ys : Years) (n : ℕ) (y : ℤ) : Type 0 where
@@ -20,10 +20,10 @@ pub record Beside (ys : Years) (n : ℕ) (y : ℤ) : Type 0 where
 
 -- the year y with its number
 abbrev pub LabelAnswer : Years → ℤ → Option (ℤ × Year) → Type 0
-LabelAnswer ys y (Some (z, r)) = (z ≡ y) × YearAnswer ys y (Some r)
-LabelAnswer ys y None = YearAnswer ys y None
+LabelAnswer ys y (Some (z, r)) = (z ≡ y) × (Some r ≡ year_in ys y)
+LabelAnswer ys y None = None ≡ year_in ys y
 
 -- the year of day n with its number
 abbrev pub PlaceAnswer : Years → ℕ → Option (ℤ × Year) → Type 0
-PlaceAnswer ys n (Some (y, r)) = InRange n × Lies ys n y × IsYear ys y r
+PlaceAnswer ys n (Some (y, r)) = InRange n × Lies ys n y × (r ≡ year_of ys y)
 PlaceAnswer ys n None = InRange n → ⊥

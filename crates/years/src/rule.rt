@@ -1,8 +1,8 @@
 // What a calendar is told by: the rule of its years.
 ghost use Rattle.std.specs.Prelude.{◌≡◌};
 ghost use Rattle.years.specs.Dates.{Years};
-ghost use Rattle.years.specs.Days.{YearsLaws, InRange, Near};
-ghost use Rattle.years.specs.Rules.{YearAnswer, length_in};
+ghost use Rattle.years.specs.Days.{YearsLaws};
+ghost use Rattle.years.specs.Rules.{year_in, length_in};
 
 // The most months of a year.
 pub const MONTHS_MOST: usize = 14;
@@ -18,8 +18,8 @@ pub struct Year {
 }
 
 // The rule of a calendar's years. The meaning is the ghost member `years`: each answer is told by it. The law is all that a
-// calendar owes: its years fit together, the first is that of day 1 and the last that of the last day, and twins are
-// months of their years.
+// calendar owes: its years fit together, the first is that of day 1 and the last that of the last day, twins are months of
+// their years, and the guess at a day's year is at most one year off.
 pub trait YearRule {
     ghost years: { Self → Years };
 
@@ -32,11 +32,11 @@ pub trait YearRule {
 
     // A year of the calendar; none for one that isn't there.
     fn year(&self, year: i32) -> Option<Year>
-        ensures { YearAnswer (years self.now) year result };
+        ensures { result ≡ year_in (years self.now) year };
 
-    // A guess at the year of a day number, at most one year off.
+    // A guess at the year of a day number; of a day in range it is at most one year off.
     fn estimate(&self, day: u32) -> i32
-        ensures { InRange day → Near (years self.now) day result };
+        ensures { result ≡ (years self.now).guess day };
 
     // The twin of a month in another year.
     fn twin_month(&self, year: i32, month: u8, other: i32) -> u8

@@ -48,8 +48,8 @@ module _ (a b : Zones) where
       | inl l ↦ ap (λ n. is_ok (read_zone_name n)) (first_name k l) ∙ la.named k l
       | inr g ↦ ap (λ n. is_ok (read_zone_name n)) (second_name k g) ∙ lb.named (k - a.count) (second_there a.count b.count k g (omega (arith, counted)))
     ];
-    each = λ k. elim (cases_lt k a.count) [
-      | inl l ↦ subst ZoneLaws (sym (first_zone k l)) (deeper_laws (a.value k) (la.each k))
-      | inr g ↦ subst ZoneLaws (sym (second_zone k g)) (deeper_laws (b.value (k - a.count)) (lb.each (k - a.count)))
+    each = λ k h. elim (cases_lt k a.count) [
+      | inl l ↦ subst ZoneLaws (sym (first_zone k l)) (deeper_laws (a.value k) (la.each k l))
+      | inr g ↦ subst ZoneLaws (sym (second_zone k g)) (deeper_laws (b.value (k - a.count)) (lb.each (k - a.count) (second_there a.count b.count k g (omega (arith, counted)))))
     ];
   }

@@ -1,7 +1,9 @@
 -- What a table of zones means, what every table keeps, and what a source answers.
-use Rattle.std.specs.Prelude.{◌≡◌, ℕ, ◌<◌, ◌≤◌, Bool, true, false, List, ℤ, pos, negsuc, ◌-ℤ◌, ◌≤ℤ◌, ◌<ℤ◌, is_ok, Option, ◌≢◌}
+use Rattle.std.specs.Prelude.{◌≡◌, ℕ, ◌<◌, ◌≤◌, Bool, true, false, List, ℤ, pos, negsuc, ◌-ℤ◌, ◌≤ℤ◌, ◌<ℤ◌, is_ok, Ok, Err, Option, Result, ◌≢◌}
 use Rattle.std.specs.Borrow.{Bor}
 use Rattle.std.specs.Option as options
+use Rattle.timebase.specs.declared.fault.Fault.{Fault}
+use Rattle.timebase.specs.declared.fault.Fault.TheVariants.{Blank as NoOffset}
 use Rattle.names.specs.ZoneScanning.{read_zone_name}
 use Rattle.zone.specs.declared.value.Value.{Value}
 use Rattle.zone.specs.declared.value.Value.TheVariants.{Offset, Blank}
@@ -37,6 +39,11 @@ abbrev pub offset : Value → ℤ
 offset (Offset o) = o
 offset (Blank cause depth) = pos 0
 
+-- the offset, or the refusal that tells the blank's cause and depth
+abbrev pub offset_known : Value → Result ℤ Fault
+offset_known (Offset o) = Ok o
+offset_known (Blank cause depth) = Err (NoOffset cause depth)
+
 -- a table of zones: how many, and of each its name and its value at every second
 pub record Zones : Type 0 where
   pub count : ℕ
@@ -46,7 +53,7 @@ pub record Zones : Type 0 where
 pub record ZonesLaws (z : Zones) : Type 0 where
   pub few : z.count ≤ 64
   pub named : (i : ℕ) → i < z.count → is_ok (read_zone_name (z.name i)) ≡ true
-  pub each : (i : ℕ) → ZoneLaws (z.value i)
+  pub each : (i : ℕ) → i < z.count → ZoneLaws (z.value i)
 
 -- ── changes ──
 

@@ -1,4 +1,4 @@
--- A source of one zone keeps the laws of every source, and its changes are those of its rule.
+-- What a source of one zone answers: the values and changes of its rule in the range, whose ends hold beyond it.
 use Rattle.std.proofs.Common.{◌≡◌, ℕ, ◌<◌, ◌≤◌, ◌⊎◌, List, ℤ, pos, ◌-ℤ◌, ◌<ℤ◌, Some, None, Option, sym, ap, ◌∙◌, subst, inl, inr, arith, Bor}
 use Rattle.std.proofs.lemmas.Int.{ints, by_lt_z}
 use Rattle.zone.specs.declared.value.Value.{Value}

@@ -13,7 +13,7 @@ module _ (name : List ℕ) (told : Zone) where
   named_laws sound = record {
     few = by_test (is_ok (read_zone_name name)) (λ e. rw e (omega arith)) (λ e. rw e (omega arith));
     named = λ i h. by_test (is_ok (read_zone_name name)) (λ e. e) (λ e. let no : i < 0 = rw e at h in absurd (omega arith));
-    each = λ _. record {
+    each = λ _ _. record {
       sound = λ s. sound (held s);
       before = λ s h. ap told (lower s h);
       after = λ s h. ap told (upper s h);

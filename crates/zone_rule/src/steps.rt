@@ -2,6 +2,7 @@
 ghost use Rattle.std.specs.Prelude.{◌≡◌, true};
 ghost use Rattle.zone_rule.specs.Steps.{is_well_made};
 
+use crate::named_zone::NamedZone;
 use crate::step::Step;
 
 // A first offset and at most 8 changes, at strictly rising seconds, to offsets that a zone may have.
@@ -17,3 +18,6 @@ pub(crate) struct Offsets<'a> {
 pub struct Steps<'a> {
     pub(crate) offsets: Option<Offsets<'a>>,
 }
+
+// A step zone is a source: of one zone, told by its steps under a name.
+pub type StepZone<'s> = NamedZone<'s, Steps<'s>>;

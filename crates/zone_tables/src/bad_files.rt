@@ -2,6 +2,7 @@
 ghost use Rattle.std.specs.Prelude.{Decides};
 ghost use Rattle.tzif.specs.File.{checked};
 ghost use Rattle.zone_tables.specs.Refusals.{AnswersAs};
+ghost use Rattle.zone_tables.specs.Rows.{IsBlankAt, IsBlank};
 
 use crate::damage::{Kind, damaged, read_damage};
 use crate::good_files::{file_source, read_zone_file};
@@ -36,13 +37,19 @@ fn answers_as(file: &[u8], refused_at: Option<usize>) -> bool
     }
 }
 
-// Whether the zone over a file has neither an offset nor a change anywhere, as over a bad file.
-fn is_blank_throughout(file: &[u8]) -> bool {
-    let source = file_source("Test/Bad", file);
-    let blank = Some(Value::Blank { cause: 1, depth: 0 });
-    SECONDS
-        .iter()
-        .all(|second| source.value(0, *second) == blank)
+// Whether the first zone of a source is there, and blank at a second as a badly made one is.
+fn is_blank_at<Z: ZoneSource>(source: &Z, second: i64) -> bool
+    ensures { Decides result (IsBlankAt (Z.ZoneSource.zones source.now) second) }
+{
+    source.value(0, second) == Some(Value::BADLY_MADE)
+}
+
+// Whether the first zone of a source is there, and blank at every second, as one over a bad file is. By the contracts one second
+// and no change tell as much: the others are asked of the program that runs.
+fn is_blank_throughout<Z: ZoneSource>(source: &Z) -> bool
+    ensures { Decides result (IsBlank (Z.ZoneSource.zones source.now)) }
+{
+    SECONDS.iter().all(|second| is_blank_at(source, *second))
         && source.change(0, i64::MIN, i64::MAX).is_none()
 }
 
@@ -57,7 +64,8 @@ impl BadCounts {
     fn note(&mut self, file: &[u8], refused_at: Option<usize>) {
         self.places.note(answers_as(file, refused_at));
         if refused_at.is_some() {
-            self.blanks.note(is_blank_throughout(file));
+            let source = file_source("Test/Bad", file);
+            self.blanks.note(is_blank_throughout(&source));
         }
     }
 

@@ -2,13 +2,13 @@
 use crate::compare::{compare_changes, compare_values};
 use crate::table::read_rows;
 use crate::tally::Tally;
-use file_zone::zone_file::ZoneFile;
+use file_zone::zone_file::{FileZone, ZoneFile};
 use names::ZoneName;
 use std::fs;
 use zone_rule::named_zone::NamedZone;
 
 // The source of one zone over a file.
-pub(crate) fn file_source<'f>(name: &'f str, file: &'f [u8]) -> NamedZone<'f, ZoneFile<'f>> {
+pub(crate) fn file_source<'f>(name: &'f str, file: &'f [u8]) -> FileZone<'f> {
     NamedZone {
         name: ZoneName::new(name.as_bytes()),
         rule: ZoneFile::new(file),

@@ -1,25 +1,9 @@
-// Sources side by side: what they say, printed, and compared with the expected output alone.
-use crate::good_files::{file_source, read_zone_file};
-use names::ZoneName;
+// The zones of `board`, sources side by side: what they say, printed, and compared with the expected output alone.
+use crate::good_files::read_zone_file;
+use board_sources::zones::{home, sites, zones};
 use std::{fmt, str};
-use zone::beside::Beside;
 use zone::source::ZoneSource;
 use zone::value::Value;
-use zone_rule::named_zone::NamedZone;
-use zone_rule::step::Step;
-use zone_rule::steps::Steps;
-
-// The changes of the zone Test/H.
-const STEPS: [Step; 2] = [
-    Step {
-        at: 1_000_000,
-        offset: 7_200,
-    },
-    Step {
-        at: 2_000_000,
-        offset: 3_600,
-    },
-];
 
 // Each side of the changes of Test/H, and of the day that Apia left out.
 const SECONDS: [i64; 6] = [
@@ -103,45 +87,20 @@ fn report_changes<Z: ZoneSource>(rt: &HostRuntime, source: &Z, zone: usize) -> a
     Ok(())
 }
 
-// What two sources side by side say.
-fn report_pair<P: ZoneSource + Drop, Q: ZoneSource + Drop>(
-    rt: &HostRuntime,
-    title: &str,
-    first: P,
-    second: Q,
-) -> anyhow::Result<()> {
-    report_source(rt, title, &Beside { first, second })
-}
-
-// Two pairs side by side, each pair alone, and the pair of both: in the second pair the second file is missing, or both are bad.
+// The two pairs of `board`, each alone, and the pair of both: in the second pair the second file is missing, or both are bad.
 pub(crate) fn report_sides(rt: &HostRuntime) -> anyhow::Result<()> {
-    let utc_file = read_zone_file(rt, "UTC.slim")?;
     let apia_file = read_zone_file(rt, "Apia.slim")?;
-    let utc = file_source("UTC", utc_file.as_slice());
-    let steps = NamedZone {
-        name: ZoneName::new(b"Test/H"),
-        rule: Steps::new(3_600, &STEPS),
-    };
-    let one = file_source("Site/One", apia_file.as_slice());
-    let cut = file_source("Site/One", without_last(apia_file.as_slice()));
+    let apia = apia_file.as_slice();
     // a file that is missing has no bytes
-    let two = file_source("Site/Two", &[]);
-    let home = Beside {
-        first: utc,
-        second: steps,
-    };
-    let sites = Beside {
-        first: one,
-        second: two,
-    };
-    let bad_sites = Beside {
-        first: cut,
-        second: two,
-    };
-    report_source(rt, "UTC and Test/H", &home)?;
-    report_source(rt, "Site/One and a missing Site/Two", &sites)?;
-    report_pair(rt, "the two pairs", home, sites)?;
-    report_pair(rt, "the two pairs, Site/One cut short", home, bad_sites)
+    let missing = &[];
+    report_source(rt, "UTC and Test/H", &home())?;
+    report_source(rt, "Site/One and a missing Site/Two", &sites(apia, missing))?;
+    report_source(rt, "the two pairs", &zones(apia, missing))?;
+    report_source(
+        rt,
+        "the two pairs, Site/One cut short",
+        &zones(without_last(apia), missing),
+    )
 }
 
 fn without_last(file: &[u8]) -> &[u8] {

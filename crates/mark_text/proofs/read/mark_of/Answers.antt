@@ -1,17 +1,11 @@
-use Rattle.std.proofs.Common.{◌≡◌, pos, ◌+◌, ◌*◌, ℤ, Err, sym, ap, ◌∙◌, subst, arith}
+use Rattle.std.proofs.Common.{◌≡◌, ℤ, Err, sym, ap, ◌∙◌, arith}
 use Rattle.mark_text.proofs.Parts.{sign_fits, draft_name, calendar_inside}
 use Rattle.std.proofs.Common.{w64, to_z, of_z}
 use Rattle.std.proofs.lemmas.Int.{ints}
-use Rattle.local_times.proofs.Locals.{found}
-use Rattle.zone.specs.Zones.{offset}
-use Rattle.local_times.specs.Locals.{count_of, second_of}
-use Rattle.mark_text.specs.Meanings.{InstantSaid}
-use Rattle.mark_text.proofs.Tells.{fields_tell, tags_tell, instant_tells}
 use Rattle.std.proofs.lemmas.Result.{err_from_is_err_and}
 use Rattle.local_times.specs.Locals.{offset_at}
 use Rattle.mark_text.specs.Reading.{agreed}
 use Rattle.mark_text.proofs.Answered.{answered}
-use Rattle.mark_text.proofs.Lookups.{own}
 use Rattle.mark_text.proofs.read.mark_of.Goals as goal
 
 pub read_fields-requires : goal.read_fields-requires
@@ -33,41 +27,8 @@ overflow_cast-result g c =
     let there = c.in_ok-zone.ensures.lowest.there in
     omega (arith, few, there)
 
-pub returns-clause-meaning : goal.returns-clause-meaning
-returns-clause-meaning g c =
-    let zs = g.Z.ZoneSource.zones c.args.zones.now in
-    let cs = g.C.CalendarSource.calendars c.args.calendars.now in
-    let t = c.args.text.now in
-    let d = c.in_ok-draft.draft in
-    let f = c.in_ok-fields.fields in
-    let z = c.in_ok-zone.zone in
-    let o = c.in_ok-offset.offset in
-    let i = c.instant_of-instant.result in
-    let ei : to_z w64 (of_z w64 i) ≡ i = omega (arith, ints) in
-    let eo : to_z w64 (of_z w64 o) ≡ o = omega (arith, ints) in
-    let told = fields_tell d f (sym c.in_ok-fields.ensures.value) in
-    let there = found (zs.value z) (to_z w64 (of_z w64 i)) o c.in_ok-offset.ensures in
-    let e = ei ∙ c.instant_of-instant.ensures in
-    let said = instant_tells (zs.value z) d f o told (ap (λ (x : ℤ). agreed f.offset x d.offset) (sym eo) ∙ sym c.in_ok-check_offset.ensures) (there.is ∙ ap (λ (x : ℤ). offset (zs.value z (second_of x))) e) in
-    record {
-      short = c.in_ok-draft.ensures.law.1;
-      draft = d;
-      text = c.in_ok-draft.ensures.law.0;
-      number = f.day;
-      date = told.date;
-      hour = told.clock.hour;
-      minute = told.clock.minute;
-      second = told.clock.second;
-      instant = subst (InstantSaid (zs.value z) (count_of (pos f.day) (d.hour * 3600 + d.minute * 60 + d.second)) d.micros d.offset) (sym e) said;
-      zone = c.in_ok-zone.ensures.lowest.bears;
-      tags = c.in_ok-draft.ensures.tags;
-      unrefused = tags_tell d.tags (sym c.in_ok-check_tags.ensures);
-      calendar = c.in_ok-calendar.ensures.lowest.bears;
-      there = record { zone = own c.in_ok-zone.ensures.lowest; calendar = own c.in_ok-calendar.ensures.lowest; known = there.known };
-    }
-
-pub returns-in_err-check_offset-clause-value : goal.returns-in_err-check_offset-clause-value
-returns-in_err-check_offset-clause-value g c =
+pub returns-in_err-check_offset : goal.returns-in_err-check_offset
+returns-in_err-check_offset g c =
     let zs = g.Z.ZoneSource.zones c.args.zones.now in
     let cs = g.C.CalendarSource.calendars c.args.calendars.now in
     let t = c.args.text.now in

@@ -2,7 +2,7 @@ use Rattle.std.proofs.Common.{◌<◌, ◌≤◌, length, sym, refl, ap, ◌∙�
 use Rattle.board_law.specs.Boards.{mark_slots, run}
 use Rattle.board_law.specs.Runs.{Lawful}
 use Rattle.board_law.proofs.Keeps.{run_none}
-use Rattle.board_law.proofs.Law.{keeps_after, spans_stay_true}
+use Rattle.board_law.proofs.Law.{keeps_on, spans_stay_true}
 use Rattle.planboard.specs.View.{view, sources}
 use Rattle.planboard.proofs.Sames.{same_first, same_on, sources_stay}
 use Rattle.script.specs.declared.lines.Lines.{Lines}
@@ -18,12 +18,12 @@ returns-then-out-room_for-clause-state g c =
     sym (run_none src st) ∙ ap (run src st) (sym (no_calls src (mark_slots st) c.args.input.now c.args.out.now few))
 
 pub returns-then-out-room_for-clause-keeps : goal.returns-then-out-room_for-clause-keeps
-returns-then-out-room_for-clause-keeps g c start earlier e =
+returns-then-out-room_for-clause-keeps g c =
     let src = sources g.Z.ZoneSource.zones g.C.CalendarSource.calendars c.args.board.now in
     let st = view c.args.board.now in
     let lawful : Lawful src = record { zones = g.met.Z.ZoneSource.lawful c.args.board.now.zones.now; calendars = g.met.C.CalendarSource.lawful c.args.board.now.calendars.now } in
     let few : length c.args.out.now < room_of (mark_slots st) (script_lines c.args.input.now) = omega (arith, c.room_for.ensures, c.if-out-room_for.true) in
-    keeps_after src lawful start st st earlier _ e (sym (run_none src st) ∙ ap (run src st) (sym (no_calls src (mark_slots st) c.args.input.now c.args.out.now few)))
+    keeps_on src lawful st st _ (sym (run_none src st) ∙ ap (run src st) (sym (no_calls src (mark_slots st) c.args.input.now c.args.out.now few)))
 
 pub returns-then-out-room_for-clause-law : goal.returns-then-out-room_for-clause-law
 returns-then-out-room_for-clause-law g c =
@@ -57,6 +57,6 @@ returns g c =
       answers = all.answers _ (search rules);
       state = all.state;
       same = c.loop-line.invariant.1;
-      keeps = λ start earlier e. keeps_after src lawful start st (view c.loop-line.board) earlier _ e all.state;
+      keeps = keeps_on src lawful st (view c.loop-line.board) _ all.state;
       law = spans_stay_true src lawful;
     }

@@ -1,6 +1,7 @@
 use Rattle.std.proofs.Common.{arith, w32, SFits, rules}
 use Rattle.std.proofs.lemmas.Int.{ints, to_z-of_z}
 use Rattle.years.proofs.Daily.{dated, not_dateless}
+use Rattle.years.proofs.Told.{is_year}
 use Rattle.years.proofs.days.date_of_day.Goals as goal
 
 pub days_since_start-rest-requires : goal.days_since_start-rest-requires
@@ -8,7 +9,7 @@ days_since_start-rest-requires g c =
     let a = c.in_ok-number.ensures in
     let high = a.0.high in
     let low = a.1.low in
-    let st = a.2.starts in
+    let st = (is_year (g.R.YearRule.years c.args.rule.now) _ _ a.2).starts in
     (omega (arith, ints), high)
 
 pub returns-in_err-month : goal.returns-in_err-month

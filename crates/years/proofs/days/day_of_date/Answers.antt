@@ -1,6 +1,7 @@
 use Rattle.std.proofs.Common.{w32, SFits, rules}
 use Rattle.std.proofs.lemmas.Int.{to_z-of_z}
 use Rattle.years.proofs.Daily.{no_year, no_day, numbers}
+use Rattle.years.proofs.Told.{answered, is_year}
 use Rattle.years.proofs.days.day_of_date.Goals as goal
 
 pub returns-in_err-year : goal.returns-in_err-year
@@ -12,7 +13,8 @@ returns-in_err-year g c =
 pub days_into-requires : goal.days_into-requires
 days_into-requires g c =
     let few = (g.met.R.YearRule.lawful c.args.rule.now).fitting.few in
-    let m = c.in_ok-year.ensures.2.months in
+    let ys = g.R.YearRule.years c.args.rule.now in
+    let m = (is_year ys _ _ (answered ys _ _ c.in_ok-year.ensures).2).months in
     rw m (few _)
 
 pub returns-in_err-into : goal.returns-in_err-into

@@ -1,5 +1,6 @@
-use Rattle.std.proofs.Common.{◌≡◌, pos, ◌-ℤ◌, ◌∙◌, arith, w32, SFits, to_z, of_z, rules}
+use Rattle.std.proofs.Common.{◌≡◌, pos, ◌-ℤ◌, sym, ◌∙◌, subst, arith, w32, SFits, to_z, of_z, rules}
 use Rattle.std.proofs.lemmas.Int.{ints, to_z-of_z}
+use Rattle.years.specs.Days.{Near}
 use Rattle.years.proofs.Daily.{beside}
 use Rattle.years.proofs.days.near_year.Goals as goal
 
@@ -24,5 +25,5 @@ returns g c =
     let near = f.near in
     let some = f.some in
     omega (arith, ints) in
-    beside _ f c.args.day c.estimate.result _ _ _ _ c.estimate.ensures (to_z-of_z w32 _ fe) (to_z-of_z w32 _ fl ∙ c.first_year.ensures) most
+    beside _ f c.args.day c.estimate.result _ _ _ _ (λ r. subst (Near _ c.args.day) (sym c.estimate.ensures) ((g.met.R.YearRule.lawful c.args.rule.now).guessed c.args.day r)) (to_z-of_z w32 _ fe) (to_z-of_z w32 _ fl ∙ c.first_year.ensures) most
     (to_z-of_z w32 _ fr ∙ c.clamp.ensures.value)

@@ -1,6 +1,7 @@
 use Rattle.std.proofs.Common.{◌≡◌, pos, ◌+ℤ◌, ◌-ℤ◌, arith, w32, SFits, to_z, of_z, rules}
 use Rattle.std.proofs.lemmas.Int.{ints, to_z-of_z}
 use Rattle.years.proofs.Daily.{turn_before, turn_after, stay, placed, some_near}
+use Rattle.years.proofs.Told.{answered}
 use Rattle.years.proofs.days.year_of_day.Goals as goal
 
 pub returns-in_err-near : goal.returns-in_err-near
@@ -58,5 +59,5 @@ returns g c =
       r,
       stay _ (g.met.R.YearRule.lawful c.args.rule.now).fitting c.args.day c.near_year-guess.result _ c.in_ok-near.near c.near_year-guess.ensures r (to_z-of_z w32 _ fy) a
           _ _ c.starts_after.ensures c.if-starts_after.false c.ends_by.ensures c.if-ends_by.false,
-      a.2,
+      (answered (g.R.YearRule.years c.args.rule.now) _ _ a).2,
     )

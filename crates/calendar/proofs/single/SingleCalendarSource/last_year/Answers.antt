@@ -1,4 +1,4 @@
-use Rattle.std.proofs.Common.{◌≡◌, true, pos, ◌-ℤ◌, Some, ap, ◌∙◌, arith, w32, to_z, of_z}
+use Rattle.std.proofs.Common.{true, Some, ap, ◌∙◌, arith}
 use Rattle.std.proofs.lemmas.Int.{ints}
 use Rattle.calendar.specs.Namings.{name_of}
 use Rattle.calendar.specs.SingleLaws.{none_one, some_one}
@@ -12,5 +12,4 @@ returns g c =
     let rule = c.in_ok-rule_of.ensures in
     let e = rw rule.1 at c.past_year.ensures in
     let f = (g.met.R.YearRule.lawful c.args.self.now.rule).fitting in
-    let k : to_z w32 (of_z w32 (to_z w32 (of_z w32 c.past_year.result) -ℤ pos 1)) ≡ (g.R.YearRule.years c.args.self.now.rule).past -ℤ pos 1 = omega (arith, ints, e, f.near, f.far, f.some) in
-    ap Some k ∙ some_one (g.R.YearRule.years c.args.self.now.rule) (name_of c.args.self.now.name) c.args.calendar (λ _. true) (λ c'. c'.last) rule.0
+    ap Some (omega (arith, ints, e, f.near, f.far, f.some)) ∙ some_one (g.R.YearRule.years c.args.self.now.rule) (name_of c.args.self.now.name) c.args.calendar (λ _. true) (λ c'. c'.last) rule.0

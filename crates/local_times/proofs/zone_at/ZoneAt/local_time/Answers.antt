@@ -26,7 +26,7 @@ plain zone laws i s o e f g =
 pub overflow_add-result : goal.overflow_add-result
 overflow_add-result g c =
     let f = (g.Z.ZoneSource.zones c.args.self.now.source.now).value c.args.self.now.number in
-    let laws = (g.met.Z.ZoneSource.lawful c.args.self.now.source.now).each c.args.self.now.number in
+    let laws = (g.met.Z.ZoneSource.lawful c.args.self.now.source.now).each c.args.self.now.number c.args.self.now.there in
     let i = c.args.instant in
     let p = plain f laws i c.floor_split-second.result.0 c.in_ok-offset.offset (omega (arith, ints)) c.floor_split-second.ensures.quotient c.in_ok-offset.ensures in
     let b = day_inside f laws i c.in_ok-offset.offset p.at c.floor_split-days.result.0 (c.floor_split-days.ensures.quotient ∙ ap (λ (z : ℤ). floor_quotient z 86400) p.sum) in
@@ -38,7 +38,7 @@ overflow_add-result g c =
 pub overflow_cast-result : goal.overflow_cast-result
 overflow_cast-result g c =
     let f = (g.Z.ZoneSource.zones c.args.self.now.source.now).value c.args.self.now.number in
-    let laws = (g.met.Z.ZoneSource.lawful c.args.self.now.source.now).each c.args.self.now.number in
+    let laws = (g.met.Z.ZoneSource.lawful c.args.self.now.source.now).each c.args.self.now.number c.args.self.now.there in
     let i = c.args.instant in
     let p = plain f laws i c.floor_split-second.result.0 c.in_ok-offset.offset (omega (arith, ints)) c.floor_split-second.ensures.quotient c.in_ok-offset.ensures in
     let b = day_inside f laws i c.in_ok-offset.offset p.at c.floor_split-days.result.0 (c.floor_split-days.ensures.quotient ∙ ap (λ (z : ℤ). floor_quotient z 86400) p.sum) in
@@ -51,7 +51,7 @@ overflow_cast-result g c =
 pub returns : goal.returns
 returns g c =
     let f = (g.Z.ZoneSource.zones c.args.self.now.source.now).value c.args.self.now.number in
-    let laws = (g.met.Z.ZoneSource.lawful c.args.self.now.source.now).each c.args.self.now.number in
+    let laws = (g.met.Z.ZoneSource.lawful c.args.self.now.source.now).each c.args.self.now.number c.args.self.now.there in
     let i = c.args.instant in
     let ei : to_z w64 (of_z w64 c.args.instant) ≡ c.args.instant = omega (arith, ints) in
     let p = plain f laws i c.floor_split-second.result.0 c.in_ok-offset.offset ei c.floor_split-second.ensures.quotient c.in_ok-offset.ensures in
@@ -74,7 +74,7 @@ day_high q l h = let e : to_z w64 (of_z w64 (to_z w64 (of_z w64 q) +ℤ pos 7191
 pub invariant_of-result : goal.invariant_of-result
 invariant_of-result g c =
     let f = (g.Z.ZoneSource.zones c.args.self.now.source.now).value c.args.self.now.number in
-    let laws = (g.met.Z.ZoneSource.lawful c.args.self.now.source.now).each c.args.self.now.number in
+    let laws = (g.met.Z.ZoneSource.lawful c.args.self.now.source.now).each c.args.self.now.number c.args.self.now.there in
     let i = c.args.instant in
     let p = plain f laws i c.floor_split-second.result.0 c.in_ok-offset.offset (omega (arith, ints)) c.floor_split-second.ensures.quotient c.in_ok-offset.ensures in
     let b = day_inside f laws i c.in_ok-offset.offset p.at c.floor_split-days.result.0 (c.floor_split-days.ensures.quotient ∙ ap (λ (z : ℤ). floor_quotient z 86400) p.sum) in

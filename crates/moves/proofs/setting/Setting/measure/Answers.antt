@@ -28,6 +28,6 @@ returns g c =
     (c.span_from.ensures
     ∙ ap (λ (x : ℤ). cond (is x (to_z w64 (of_z w64 e))) no_span (measured_by f x (way_between x (to_z w64 (of_z w64 e))) (to_z w64 (of_z w64 e)) k c.args.unit)) es
     ∙ ap (λ (y : ℤ). cond (is a y) no_span (measured_by f a (way_between a y) y k c.args.unit)) ee) in
-    let zl = (g.met.Z.ZoneSource.lawful c.args.self.now.zone.source.now).each c.args.self.now.zone.number in
+    let zl = (g.met.Z.ZoneSource.lawful c.args.self.now.zone.source.now).each c.args.self.now.zone.number c.args.self.now.zone.there in
     let cl = (g.met.C.CalendarSource.lawful c.args.self.now.calendar.source.now).each c.args.self.now.calendar.number c.args.self.now.calendar.there in
     record { value = is; accepted = λ _ _. refl; law = truly f k zl cl c.args.unit a b (Ok c.span_from.result) is }

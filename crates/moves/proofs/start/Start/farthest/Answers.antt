@@ -29,7 +29,7 @@ pub most_days-days-requires : goal.most_days-days-requires
 most_days-days-requires g c =
     let s = c.args.self.now in
     let zone = (g.Z.ZoneSource.zones s.zone.now.source.now).value s.zone.now.number in
-    let laws = (g.met.Z.ZoneSource.lawful s.zone.now.source.now).each s.zone.now.number in
+    let laws = (g.met.Z.ZoneSource.lawful s.zone.now.source.now).each s.zone.now.number s.zone.now.there in
     let el : to_z w64 (of_z w64 c.count.result) ≡ c.count.result = omega (arith, ints) in
     let eb : to_z w64 (of_z w64 c.args.b) ≡ c.args.b = omega (arith, ints) in
     let h = ahead zone laws s.instant c.args.way c.args.b s.local s.shows c.requires.known c.requires.way eb c.count.result c.distance.result el c.count.ensures c.distance.ensures in
@@ -39,7 +39,7 @@ pub days-init : goal.days-init
 days-init g c =
     let s = c.args.self.now in
     let zone = (g.Z.ZoneSource.zones s.zone.now.source.now).value s.zone.now.number in
-    let laws = (g.met.Z.ZoneSource.lawful s.zone.now.source.now).each s.zone.now.number in
+    let laws = (g.met.Z.ZoneSource.lawful s.zone.now.source.now).each s.zone.now.number s.zone.now.there in
     let n = c.most_days-days.result in
     let few : c.most_days-days.result ≤ 3652059 = omega (arith, c.most_days-days.ensures.few) in
     let el : to_z w64 (of_z w64 c.count.result) ≡ c.count.result = omega (arith, ints) in
@@ -76,7 +76,7 @@ pub returns : goal.returns
 returns g c =
     let s = c.args.self.now in
     let zone = (g.Z.ZoneSource.zones s.zone.now.source.now).value s.zone.now.number in
-    let laws = (g.met.Z.ZoneSource.lawful s.zone.now.source.now).each s.zone.now.number in
+    let laws = (g.met.Z.ZoneSource.lawful s.zone.now.source.now).each s.zone.now.number s.zone.now.there in
     let eb : to_z w64 (of_z w64 c.args.b) ≡ c.args.b = omega (arith, ints) in
     let er : to_z w64 (of_z w64 (to_z w64 (of_z w64 c.in-Some.at))) ≡ c.in-Some.at = omega (arith, ints) in
     let u = up_to_at c.args.way s.instant c.args.b s.instant (to_z w64 (of_z w64 c.args.b)) c.requires.way refl eb in

@@ -4,13 +4,11 @@ use Rattle.std.proofs.lemmas.Result.{err_from_is_err_and}
 use Rattle.std.specs.Option.{ok_or}
 use Rattle.timebase.specs.declared.fault.Fault.TheVariants.{NoSuchDate}
 use Rattle.calendar.specs.Calendars.{within}
+use Rattle.local_times.proofs.Results.{err_same}
 use Rattle.local_times.specs.declared.local_time.LocalTime.{LocalTime}
 use Rattle.span_law.specs.Stepping.{signed}
 use Rattle.moves.proofs.Farthest.{reach_own, reach_out, reach_in}
 use Rattle.moves.proofs.start.Start.reach.Goals as goal
-
-err_same : {A E : Type 0} {d e : E} → ◌≡◌ {A = Result A E} (Err d) (Err e) → d ≡ e
-err_same h = cc
 
 pub returns-then-days-eq0 : goal.returns-then-days-eq0
 returns-then-days-eq0 g c =

@@ -30,7 +30,7 @@ returns g c =
     let m = c.in-Some.mark in
     let there = sym c.if-not-is_there.ensures.value in
     let held : slot_at 256 (memory c.args.self.now.marks) c.args.slot ≡ Some m = sym c.requires ∙ c.in-Some.is in
-    let on = on_it (memory c.args.self.now.marks) c.args.slot m held in
+    let on = on_it 256 (memory c.args.self.now.marks) c.args.slot m held in
     let few : c.args.slot < 256 = omega (arith, on) in
     let x = c.put_mark.ensures.there (there_is src.zones src.calendars m there) in
     line_put src (view c.args.self.now) c.args.slot m c.args.writer.now _ x.text
