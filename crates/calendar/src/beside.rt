@@ -17,7 +17,12 @@ fn place_in<P: CalendarSource, Q: CalendarSource>(
 ) -> Option<Place>
     ensures { result ≡ place_of (P.CalendarSource.calendars pair.now.first).count (Q.CalendarSource.calendars pair.now.second).count calendar }
 {
-    place_among(pair.first.count(), pair.second.count(), calendar)
+    let count = pair.first.count();
+    // the second is asked only for what the first hasn't, so that a question costs no more the more stand beside it
+    if calendar < count {
+        return Some(Place::First(calendar));
+    }
+    place_among(count, pair.second.count(), calendar)
 }
 
 // The first's numbers, then the second's. Above 64 calendars in all only the first's are there. Each question has a match of

@@ -10,7 +10,7 @@ use Rattle.tzif.proofs.Parts.{second_part}
 use Rattle.file_zone.specs.Blocks.{second_at, GoodBlock, Passed}
 
 -- chunk k of some of n
-chunk_at : {X : Type 0} (n m k : ℕ) (xs : List X) (d : List X) → k < m → get_or (first_chunks n m xs) k d ≡ take n (drop (n * k) xs)
+pub chunk_at : {X : Type 0} (n m k : ℕ) (xs : List X) (d : List X) → k < m → get_or (first_chunks n m xs) k d ≡ take n (drop (n * k) xs)
 chunk_at n zero k xs d h = absurd (omega arith)
 chunk_at n (suc m) zero xs d h = let e : n * 0 ≡ 0 = omega arith in rw e refl
 chunk_at n (suc m) (suc k) xs d h = chunk_at n m k (drop n xs) d (omega arith) ∙ ap (take n) (drop-drop (n * k) n xs ∙ ap (λ i. drop i xs) (let e = mul-suc n k in let z : n + n * k ≡ n * suc k = omega arith in z))

@@ -34,11 +34,13 @@ impl<'f> ZoneFile<'f> {
     fn block(&self) -> Result<Block<'f>, Fault>
         ensures { IsBlockOf (bytes_of self.now) (checked (bytes_of self.now)) result }
     {
-        let layout = self.layout?;
-        Ok(Block {
-            bytes: part(self.bytes, layout),
-            times: layout.times,
-        })
+        match &self.layout {
+            Ok(layout) => Ok(Block {
+                bytes: part(self.bytes, *layout),
+                times: layout.times,
+            }),
+            Err(fault) => Err(*fault),
+        }
     }
 }
 

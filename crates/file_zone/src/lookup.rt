@@ -57,7 +57,7 @@ impl Block<'_> {
         ensures { result ≡ offset_of self.now.bytes.now self.now.times index }
     {
         let record = &self.bytes[9 * self.times + 6 * index..];
-        i32::from_be_bytes(*record.first_chunk().unwrap())
+        i32::from_be_bytes(record.as_chunks().0[0])
     }
 
     // The offset after the first `count` transitions.

@@ -17,8 +17,8 @@ pub(crate) fn skip(file: &[u8], at: usize, size: usize) -> Result<usize, WrongAt
     ensures wrong { wrong_place result ≡ wrong_at file.now (anything at size) }
     ensures near { IfOk result (λ p. (p ≡ at + size) × (p ≤ length file.now)) }
 {
-    match at.checked_add(size) {
-        Some(end) if end <= file.len() => Ok(end),
+    match file.len().checked_sub(size) {
+        Some(last) if at <= last => Ok(at + size),
         _ => Err(WrongAt { at: file.len() }),
     }
 }
@@ -28,7 +28,7 @@ fn array<const N: usize>(file: &[u8], at: usize) -> [u8; N]
     requires { at + N ≤ length file.now }
     ensures { result ≡ take N (drop at file.now) }
 {
-    *file[at..].first_chunk().unwrap()
+    file[at..at + N].try_into().unwrap()
 }
 
 pub(crate) fn number(file: &[u8], at: usize) -> u32
