@@ -18,7 +18,7 @@ fn place_in<P: CalendarSource, Q: CalendarSource>(
     ensures { result ≡ place_of (P.CalendarSource.calendars pair.now.first).count (Q.CalendarSource.calendars pair.now.second).count calendar }
 {
     let count = pair.first.count();
-    // the second is asked only for what the first hasn't, so that a question costs no more the more stand beside it
+    // the second counts its calendars only for a number that the first hasn't
     if calendar < count {
         return Some(Place::First(calendar));
     }

@@ -30,7 +30,7 @@ impl<'f> ZoneFile<'f> {
         self.layout
     }
 
-    // The second block of a good file.
+    // The second block of a good file. Each question asks for it, so the layout is looked at where it stands and not copied.
     fn block(&self) -> Result<Block<'f>, Fault>
         ensures { IsBlockOf (bytes_of self.now) (checked (bytes_of self.now)) result }
     {
